@@ -1,0 +1,36 @@
+-- What every digest is: 32 bytes. The crates above know no more of the hash.
+use mathlib.Core.Path.{_≡_, subst, sym}
+use mathlib.Core.List.{List}
+use mathlib.Core.Logic.{⊎-elim}
+use Prim.Native.Nat.{ℕ, _/_, _%_, _≤_, _<_}
+use native.Mathlib.Omega.{arith}
+use lib.ListN.{length, getD, List·getD-eq-default}
+use Rattle.fields.specs.Fields.{Bytes}
+use Rattle.blake2b.specs.Rfc7693.{byte, digest, hash}
+use Rattle.blake2b.proofs.Laws.{length-tab, getD-tab}
+use Rattle.blake2b.proofs.Whole.{le-or-lt}
+
+digest-length : (h : List ℕ) → length (digest h) ≡ 32
+unfolding digest
+digest-length h = length-tab (λ k. byte (getD h (k / 8) 0) (k % 8)) 32
+
+byte-lt : (w j : ℕ) → byte w j < 256
+unfolding byte
+byte-lt w j = omega arith
+
+digest-bytes : (h : List ℕ) → Bytes (digest h)
+unfolding digest
+digest-bytes h i =
+    let f : ℕ → ℕ = λ k. byte (getD h (k / 8) 0) (k % 8) in
+    ⊎-elim
+    (λ past. rw (List·getD-eq-default (digest h) 0 {n = i} (rw (digest-length h) past)) (omega arith))
+    (λ below. rw (getD-tab f 32 i below) (byte-lt (getD h (i / 8) 0) (i % 8)))
+    (le-or-lt 32 i)
+
+pub hash-length : (m : List ℕ) → length (hash m) ≡ 32
+unfolding hash
+hash-length m = digest-length _
+
+pub hash-bytes : (m : List ℕ) → Bytes (hash m)
+unfolding hash
+hash-bytes m = digest-bytes _

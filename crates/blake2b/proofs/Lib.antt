@@ -1,0 +1,5 @@
+pub mod Laws
+pub mod Pushes
+pub mod Whole
+pub mod Outcomes
+pub mod Facts

@@ -1,0 +1,19 @@
+use native.Mathlib.Omega.{arith}
+use Rattle.blake2b.specs.Rfc7693.{before}
+use borrow.Author.Needs.{needs}
+use Rattle.blake2b.proofs.message.before.Statement.{statement}
+use Rattle.blake2b.proofs.message.before.Tie as tie
+
+sub-result : tie.Need-sub-result
+sub-result c = search needs
+
+returns : tie.Need-returns
+unfolding before
+returns c = omega arith
+
+returns-2 : tie.Need-returns-2
+unfolding before
+returns-2 c = omega arith
+
+pub before-spec : {M : Type 1} → statement M
+before-spec = tie.close (tie.spec sub-result returns returns-2)

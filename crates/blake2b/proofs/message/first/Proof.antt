@@ -1,0 +1,11 @@
+use mathlib.Core.Path.{refl}
+use Rattle.blake2b.specs.Rfc7693.{first, IV}
+use Rattle.blake2b.proofs.message.first.Statement.{statement}
+use Rattle.blake2b.proofs.message.first.Tie as tie
+
+returns : tie.Need-returns
+unfolding first IV
+returns c = refl
+
+pub first-spec : {M : Type 1} → statement M
+first-spec = tie.close (tie.spec returns)

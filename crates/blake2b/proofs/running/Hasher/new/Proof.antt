@@ -1,0 +1,13 @@
+use mathlib.Core.Path.{_≡_, refl, _∙_}
+use borrow.Author.Needs.{needs}
+use Rattle.blake2b.specs.Rfc7693.{chain, before, tab}
+use Rattle.blake2b.specs.Running.{rest}
+use Rattle.blake2b.proofs.running.Hasher.new.Statement.{statement}
+use Rattle.blake2b.proofs.running.Hasher.new.Tie as tie
+
+returns : tie.Need-returns
+unfolding chain before rest tab
+returns c = rw (c .first .ensures)
+
+pub new-spec : {M : Type 1} → statement M
+new-spec = tie.close (tie.spec (λ c κs. search needs) returns)

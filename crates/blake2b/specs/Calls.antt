@@ -1,0 +1,47 @@
+-- What `hash` answers and leaves on every input: document 01, "Numbers a caller can get", hash 7, 4.
+use Prim.Native.Nat.{ℕ}
+use mathlib.Core.Path.{_≡_}
+use mathlib.Core.List.{List}
+use mathlib.Core.Bool.{Bool, true, false}
+use lib.Dec.{ltb, eqb}
+use lib.ListN.{length}
+use Rattle.refusal.specs.Numbers.{numberOf}
+use Rattle.refusal.specs.declared.Refusal.{Refusal}
+use Rattle.refusal.specs.declared.Refusal.the-variants.{Length, TooLong}
+use Rattle.blake2b.specs.Rfc7693.{hash}
+use Rattle.blake2b.specs.declared.Answer.{Answer}
+use Rattle.blake2b.specs.declared.Answer.the-variants.{Done, Refused}
+
+-- the most bytes that the hash takes in all
+abbrev pub limit : ℕ
+limit = 4096
+
+-- the first where the test holds, else the second
+abbrev pub pick {ℓ} : {A : Type ℓ} → Bool → A → A → A
+pick true a b = a
+pick false a b = b
+
+-- document 01's number of an answer
+abbrev pub answerNumber : Answer → ℕ
+answerNumber Done = 0
+answerNumber (Refused why) = numberOf why
+
+-- an answer, and the end value of the two slices lent
+pub record Outcome : Type 0 where
+  pub answer : Answer
+  pub message : List ℕ
+  pub out : List ℕ
+
+abbrev pub refused : Refusal → List ℕ → List ℕ → Outcome
+refused why m out = record { answer = Refused why; message = m; out = out }
+
+unfoldable pub hashOutcome : List ℕ → List ℕ → Outcome
+hashOutcome m out =
+    pick (ltb limit (length m)) (refused TooLong m out)
+    (pick (eqb (length out) 32) (record { answer = Done; message = m; out = hash m }) (refused Length m out))
+
+-- the contract of `hash`
+pub record Hashes (m out : List ℕ) (answer : Answer) (m′ out′ : List ℕ) : Type 0 where
+  pub answers : answer ≡ hashOutcome m out .answer
+  pub keeps : m′ ≡ hashOutcome m out .message
+  pub leaves : out′ ≡ hashOutcome m out .out

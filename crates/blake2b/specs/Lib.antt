@@ -1,0 +1,3 @@
+pub mod Rfc7693
+pub mod Running
+pub mod Calls

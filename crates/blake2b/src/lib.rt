@@ -1,0 +1,24 @@
+// BLAKE2b of RFC 7693, with no key and a digest of 32 bytes, of at most 4,096 bytes.
+mod compression;
+mod message;
+mod mixing;
+mod running;
+mod words;
+
+pub use compression::compress;
+pub use message::hash;
+pub use message::hash_32;
+pub use message::hash_32_32;
+pub use message::hash_byte_32;
+pub use running::Fed;
+pub use running::Hasher;
+use refusal::Refusal;
+
+// The most bytes that the hash takes in all.
+pub const LIMIT: usize = 4096;
+
+// What the hash of a message answers, and what feeding a running hash does.
+pub enum Answer {
+    Done,
+    Refused(Refusal),
+}

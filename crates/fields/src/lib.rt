@@ -1,0 +1,36 @@
+// The fields that every layout of the library is made of, at an index of a lent slice.
+ghost use mathlib.Core.Path.{_≡_};
+ghost use Prim.Native.Nat.{_+_, _≤_};
+ghost use lib.ListN.{length};
+ghost use Rattle.fields.specs.Fields.{part, put};
+
+// Writes bytes into out from index at on.
+pub fn write(out: &mut [u8], at: usize, bytes: &[u8])
+    requires { ⌜ at + length (now bytes) ≤ length (now out) ⌝ }
+    ensures { λ _. ⌜ now (out .exit) ≡ put (now (out .entry)) at (length (now (bytes .entry))) (now (bytes .entry)) ⌝ }
+{
+    let mut i: usize = 0;
+    while i < bytes.len() {
+        out[at + i] = bytes[i];
+        i += 1;
+    }
+}
+
+// Writes a field of 32 bytes into out from index at on.
+pub fn put32(out: &mut [u8], at: usize, field: [u8; 32])
+    requires { ⌜ at + 32 ≤ length (now out) ⌝ }
+    ensures { λ _. ⌜ now (out .exit) ≡ put (now (out .entry)) at 32 field ⌝ }
+{
+    write(out, at, &field);
+}
+
+// The field of 32 bytes that stands in s from index at on.
+pub fn get32(s: &[u8], at: usize) -> [u8; 32]
+    requires { ⌜ at + 32 ≤ length (now s) ⌝ }
+    ensures { λ r. ⌜ r ≡ part (now (s .entry)) at 32 ⌝ }
+{
+    let mut field = [0u8; 32];
+    let end = at + 32;
+    write(&mut field, 0, &s[at..end]);
+    field
+}
