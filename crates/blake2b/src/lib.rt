@@ -10,9 +10,9 @@ pub use message::hash;
 pub use message::hash_32;
 pub use message::hash_32_32;
 pub use message::hash_byte_32;
+use refusal::Refusal;
 pub use running::Fed;
 pub use running::Hasher;
-use refusal::Refusal;
 
 // The most bytes that the hash takes in all.
 pub const LIMIT: usize = 4096;

@@ -6,15 +6,6 @@ use Rattle.fields.specs.Fields.{put}
 use Rattle.fields.proofs.put32.Statement.{statement}
 use Rattle.fields.proofs.put32.Tie as tie
 
-slice-aggregate-write : tie.Need-slice-aggregate-write
-slice-aggregate-write c = search needs
-
-write-requires : tie.Need-write-requires
-write-requires c κs = search needs
-
-same-length : tie.Need-same-length
-same-length c = search needs
-
 returns : tie.Need-returns
 returns c =
     let a = c .before .before .before .before .before .before .args in
@@ -22,4 +13,4 @@ returns c =
     c .before .before .write .ensures ∙ ap (λ (n : ℕ). put (a .out .now) (a .at) n (a .t3)) long
 
 pub put32-spec : {M : Type 1} → statement M
-put32-spec = tie.close (tie.spec slice-aggregate-write write-requires same-length returns)
+put32-spec = tie.close (tie.spec (λ c. search needs) (λ c κs. search needs) (λ c. search needs) returns)

@@ -3,18 +3,9 @@ use borrow.Author.Needs.{needs}
 use Rattle.blake2b.proofs.compression.compress.Statement.{statement}
 use Rattle.blake2b.proofs.compression.compress.Tie as tie
 
-start-requires : tie.Need-start-requires
-start-requires c κs = search needs
-
-rounds-requires : tie.Need-rounds-requires
-rounds-requires c κs = search needs
-
-fold-requires : tie.Need-fold-requires
-fold-requires c κs = search needs
-
 returns : tie.Need-returns
 unfolding F
 returns c = rw (c .fold .ensures, c .before .before .rounds .ensures, c .before .before .before .start .ensures)
 
 pub compress-spec : {M : Type 1} → statement M
-compress-spec = tie.close (tie.spec start-requires rounds-requires fold-requires returns)
+compress-spec = tie.close (tie.spec (λ c κs. search needs) (λ c κs. search needs) (λ c κs. search needs) returns)

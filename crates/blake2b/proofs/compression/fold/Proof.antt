@@ -3,8 +3,8 @@ use lib.Bits.{bitXor}
 use Rattle.blake2b.specs.Rfc7693 as spec
 use Rattle.blake2b.proofs.Laws as laws
 use lib.ListN.{length, take, getD, length-set}
-use mathlib.Core.Path.{_≡_, refl, sym, _∙_}
-use Prim.Native.Nat.{ℕ, _+_, _*_, _-_, _/_, _%_, _≤_}
+use mathlib.Core.Path.{_≡_, refl}
+use Prim.Native.Nat.{_+_, _-_, _≤_}
 use native.Mathlib.Omega.{arith}
 use Rattle.blake2b.proofs.compression.fold.Statement.{statement}
 use Rattle.blake2b.proofs.compression.fold.Tie as tie
@@ -18,39 +18,6 @@ abbrev μ-loop : tie.MeasureT-loop
 loop-holds : tie.Need-loop-holds Inv-loop μ-loop
 unfolding tab
 loop-holds c = (omega arith, refl, refl)
-
-mul-out : tie.Need-mul-out Inv-loop μ-loop
-mul-out c = omega arith
-
-array-read-out : tie.Need-array-read-out Inv-loop μ-loop
-array-read-out c = omega arith
-
-mul-out-2 : tie.Need-mul-out-2 Inv-loop μ-loop
-mul-out-2 c = omega arith
-
-element-copy-out-out : tie.Need-element-copy-out-out Inv-loop μ-loop
-element-copy-out-out c = omega arith
-
-add-out : tie.Need-add-out Inv-loop μ-loop
-add-out c = omega arith
-
-mul-out-3 : tie.Need-mul-out-3 Inv-loop μ-loop
-mul-out-3 c = omega arith
-
-element-copy-out-out-2 : tie.Need-element-copy-out-out-2 Inv-loop μ-loop
-element-copy-out-out-2 c = omega arith
-
-mul-out-4 : tie.Need-mul-out-4 Inv-loop μ-loop
-mul-out-4 c = omega arith
-
-array-write-out : tie.Need-array-write-out Inv-loop μ-loop
-array-write-out c = omega arith
-
-add-i : tie.Need-add-i Inv-loop μ-loop
-add-i c = omega arith
-
-loop-less : tie.Need-loop-less Inv-loop μ-loop
-loop-less c = omega arith
 
 loop-again : tie.Need-loop-again Inv-loop μ-loop
 loop-again c = (omega arith, simp length-set (c .before .before .before .loop .inv .1), laws.tab-more _ _ _ _ (omega arith) refl (c .before .before .before .loop .inv .2))
@@ -66,16 +33,16 @@ fold-spec =
     Inv-loop
     μ-loop
     loop-holds
-    mul-out
-    array-read-out
-    mul-out-2
-    element-copy-out-out
-    add-out
-    mul-out-3
-    element-copy-out-out-2
-    mul-out-4
-    array-write-out
-    add-i
-    loop-less
+    (λ c. omega arith)
+    (λ c. omega arith)
+    (λ c. omega arith)
+    (λ c. omega arith)
+    (λ c. omega arith)
+    (λ c. omega arith)
+    (λ c. omega arith)
+    (λ c. omega arith)
+    (λ c. omega arith)
+    (λ c. omega arith)
+    (λ c. omega arith)
     loop-again
     returns)

@@ -4,9 +4,6 @@ use borrow.Author.Needs.{needs}
 use Rattle.blake2b.proofs.message.before.Statement.{statement}
 use Rattle.blake2b.proofs.message.before.Tie as tie
 
-sub-result : tie.Need-sub-result
-sub-result c = search needs
-
 returns : tie.Need-returns
 unfolding before
 returns c = omega arith
@@ -16,4 +13,4 @@ unfolding before
 returns-2 c = omega arith
 
 pub before-spec : {M : Type 1} → statement M
-before-spec = tie.close (tie.spec sub-result returns returns-2)
+before-spec = tie.close (tie.spec (λ c. search needs) returns returns-2)

@@ -2,9 +2,8 @@ use Rattle.blake2b.specs.Rfc7693.{chain}
 use borrow.Author.Needs.{needs}
 use Rattle.blake2b.specs.Rfc7693 as spec
 use Rattle.blake2b.proofs.Laws as laws
-use lib.ListN.{length, take, getD}
-use mathlib.Core.Path.{_≡_, refl, _∙_}
-use Prim.Native.Nat.{ℕ, _+_, _*_, _-_, _/_, _%_, _≤_}
+use mathlib.Core.Path.{_≡_}
+use Prim.Native.Nat.{_-_, _≤_}
 use native.Mathlib.Omega.{arith}
 use Rattle.blake2b.proofs.message.chain.Statement.{statement}
 use Rattle.blake2b.proofs.message.chain.Tie as tie
@@ -15,21 +14,9 @@ Inv-loop s n h₀ k₀ h k = (k ≤ n) × (h ≡ spec.chain s k)
 abbrev μ-loop : tie.MeasureT-loop
 μ-loop s n h₀ k₀ h k = n - k
 
-first-requires : tie.Need-first-requires Inv-loop μ-loop
-first-requires c κs = search needs
-
 loop-holds : tie.Need-loop-holds Inv-loop μ-loop
 unfolding chain
 loop-holds c = (omega arith, c .first .ensures)
-
-step-requires : tie.Need-step-requires Inv-loop μ-loop
-step-requires c κs = omega arith
-
-add-k : tie.Need-add-k Inv-loop μ-loop
-add-k c = omega arith
-
-loop-less : tie.Need-loop-less Inv-loop μ-loop
-loop-less c = omega arith
 
 loop-again : tie.Need-loop-again Inv-loop μ-loop
 loop-again c =
@@ -47,10 +34,10 @@ chain-spec =
     (tie.spec
     Inv-loop
     μ-loop
-    first-requires
+    (λ c κs. search needs)
     loop-holds
-    step-requires
-    add-k
-    loop-less
+    (λ c κs. omega arith)
+    (λ c. omega arith)
+    (λ c. omega arith)
     loop-again
     returns)

@@ -1,4 +1,4 @@
-use mathlib.Core.Path.{_≡_, ap, _∙_}
+use mathlib.Core.Path.{_∙_}
 use borrow.Author.Needs.{needs}
 use Rattle.fields.proofs.Laws.{put-whole}
 use Rattle.blake2b.proofs.Outcomes.{hashes, too-long, bad-length, done}
@@ -26,8 +26,8 @@ returns-3 c =
       answers = h .answers;
       keeps = h .keeps;
       leaves =
-        c .before .before .put32 .ensures ∙ put-whole (a .out .now) _ 32 exact ∙ c .before .before .before .before .digest .ensures
-            ∙ h .leaves;
+          c .before .before .put32 .ensures ∙ put-whole (a .out .now) _ 32 exact ∙ c .before .before .before .before .digest .ensures
+          ∙ h .leaves;
     }
 
 pub hash-spec : {M : Type 1} → statement M

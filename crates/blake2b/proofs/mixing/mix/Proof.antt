@@ -3,30 +3,6 @@ use borrow.Author.Needs.{needs}
 use Rattle.blake2b.proofs.mixing.mix.Statement.{statement}
 use Rattle.blake2b.proofs.mixing.mix.Tie as tie
 
-add3-requires : tie.Need-add3-requires
-add3-requires c κs = search needs
-
-turn-requires : tie.Need-turn-requires
-turn-requires c κs = search needs
-
-add2-requires : tie.Need-add2-requires
-add2-requires c κs = search needs
-
-turn-requires-2 : tie.Need-turn-requires-2
-turn-requires-2 c κs = search needs
-
-add3-requires-2 : tie.Need-add3-requires-2
-add3-requires-2 c κs = search needs
-
-turn-requires-3 : tie.Need-turn-requires-3
-turn-requires-3 c κs = search needs
-
-add2-requires-2 : tie.Need-add2-requires-2
-add2-requires-2 c κs = search needs
-
-turn-requires-4 : tie.Need-turn-requires-4
-turn-requires-4 c κs = search needs
-
 returns : tie.Need-returns
 unfolding G
 returns c =
@@ -43,12 +19,12 @@ pub mix-spec : {M : Type 1} → statement M
 mix-spec =
     tie.close
     (tie.spec
-    add3-requires
-    turn-requires
-    add2-requires
-    turn-requires-2
-    add3-requires-2
-    turn-requires-3
-    add2-requires-2
-    turn-requires-4
+    (λ c κs. search needs)
+    (λ c κs. search needs)
+    (λ c κs. search needs)
+    (λ c κs. search needs)
+    (λ c κs. search needs)
+    (λ c κs. search needs)
+    (λ c κs. search needs)
+    (λ c κs. search needs)
     returns)

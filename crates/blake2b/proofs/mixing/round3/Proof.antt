@@ -3,15 +3,9 @@ use borrow.Author.Needs.{needs}
 use Rattle.blake2b.proofs.mixing.round3.Statement.{statement}
 use Rattle.blake2b.proofs.mixing.round3.Tie as tie
 
-columns-requires : tie.Need-columns-requires
-columns-requires c κs = search needs
-
-diagonals-requires : tie.Need-diagonals-requires
-diagonals-requires c κs = search needs
-
 returns : tie.Need-returns
 unfolding round chosen SIGMA
 returns c = rw (c .diagonals .ensures, c .before .columns .ensures)
 
 pub round3-spec : {M : Type 1} → statement M
-round3-spec = tie.close (tie.spec columns-requires diagonals-requires returns)
+round3-spec = tie.close (tie.spec (λ c κs. search needs) (λ c κs. search needs) returns)

@@ -3,42 +3,6 @@ use borrow.Author.Needs.{needs}
 use Rattle.blake2b.proofs.mixing.rounds.Statement.{statement}
 use Rattle.blake2b.proofs.mixing.rounds.Tie as tie
 
-round0-requires : tie.Need-round0-requires
-round0-requires c κs = search needs
-
-round1-requires : tie.Need-round1-requires
-round1-requires c κs = search needs
-
-round2-requires : tie.Need-round2-requires
-round2-requires c κs = search needs
-
-round3-requires : tie.Need-round3-requires
-round3-requires c κs = search needs
-
-round4-requires : tie.Need-round4-requires
-round4-requires c κs = search needs
-
-round5-requires : tie.Need-round5-requires
-round5-requires c κs = search needs
-
-round6-requires : tie.Need-round6-requires
-round6-requires c κs = search needs
-
-round7-requires : tie.Need-round7-requires
-round7-requires c κs = search needs
-
-round8-requires : tie.Need-round8-requires
-round8-requires c κs = search needs
-
-round9-requires : tie.Need-round9-requires
-round9-requires c κs = search needs
-
-round10-requires : tie.Need-round10-requires
-round10-requires c κs = search needs
-
-round11-requires : tie.Need-round11-requires
-round11-requires c κs = search needs
-
 returns : tie.Need-returns
 unfolding rounds
 returns c =
@@ -59,16 +23,16 @@ pub rounds-spec : {M : Type 1} → statement M
 rounds-spec =
     tie.close
     (tie.spec
-    round0-requires
-    round1-requires
-    round2-requires
-    round3-requires
-    round4-requires
-    round5-requires
-    round6-requires
-    round7-requires
-    round8-requires
-    round9-requires
-    round10-requires
-    round11-requires
+    (λ c κs. search needs)
+    (λ c κs. search needs)
+    (λ c κs. search needs)
+    (λ c κs. search needs)
+    (λ c κs. search needs)
+    (λ c κs. search needs)
+    (λ c κs. search needs)
+    (λ c κs. search needs)
+    (λ c κs. search needs)
+    (λ c κs. search needs)
+    (λ c κs. search needs)
+    (λ c κs. search needs)
     returns)

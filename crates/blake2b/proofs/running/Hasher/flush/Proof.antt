@@ -2,14 +2,8 @@ use borrow.Author.Needs.{needs}
 use Rattle.blake2b.proofs.running.Hasher.flush.Statement.{statement}
 use Rattle.blake2b.proofs.running.Hasher.flush.Tie as tie
 
-words-requires : tie.Need-words-requires
-words-requires c κs = search needs
-
-compress-requires : tie.Need-compress-requires
-compress-requires c κs = search needs
-
 returns : tie.Need-returns
 returns c = rw (c .compress .ensures, c .before .before .before .words .ensures)
 
 pub flush-spec : {M : Type 1} → statement M
-flush-spec = tie.close (tie.spec words-requires compress-requires returns)
+flush-spec = tie.close (tie.spec (λ c κs. search needs) (λ c κs. search needs) returns)

@@ -1,4 +1,3 @@
-use mathlib.Core.Path.{_≡_, refl, _∙_}
 use borrow.Author.Needs.{needs}
 use Rattle.blake2b.specs.Rfc7693.{chain, before, tab}
 use Rattle.blake2b.specs.Running.{rest}

@@ -1,4 +1,4 @@
-use mathlib.Core.Path.{_≡_, sym, _∙_}
+use mathlib.Core.Path.{_≡_}
 use mathlib.Core.List.{append-assoc}
 use borrow.Author.Needs.{needs}
 use native.Mathlib.Omega.{arith}
