@@ -10,17 +10,18 @@ use borrow.Author.Tests.{lt-ltb, le-ltb, le-leb, lt-leb}
 use lib.Dec.{lit<}
 use lib.ListN.{length, getD, set, take, drop, length-drop, take-append-drop, drop-of-length-le}
 use lib.Seq.{sets, drop-cons, drop-drop, length-take-le}
+use Rattle.fields.specs.Tests.{pick}
 use Rattle.refusal.specs.declared.Refusal.the-variants.{TooLong}
-use Rattle.blake2b.specs.Calls.{limit, pick}
+use Rattle.blake2b.specs.Calls.{limit}
 use Rattle.blake2b.specs.Running.{pushed, pushes, stored, storedAll, flushed, fed}
 use Rattle.blake2b.specs.declared.running.Hasher.{Hasher}
 use Rattle.blake2b.specs.declared.running.Fed.{Fed}
 use Rattle.blake2b.specs.declared.Answer.the-variants.{Done, Refused}
 
-pub pick-true {ℓ} : {A : Type ℓ} (t : Bool) (a b : A) → t ≡ true → pick t a b ≡ a
+pub pick-true : {A : Type 0} (t : Bool) (a b : A) → t ≡ true → pick t a b ≡ a
 pick-true t a b e = ap (λ (u : Bool). pick u a b) e
 
-pub pick-false {ℓ} : {A : Type ℓ} (t : Bool) (a b : A) → t ≡ false → pick t a b ≡ b
+pub pick-false : {A : Type 0} (t : Bool) (a b : A) → t ≡ false → pick t a b ≡ b
 pick-false t a b e = ap (λ (u : Bool). pick u a b) e
 
 pub pushed-room : (s : Hasher) (b : ℕ) → s .len < 128 → pushed s b ≡ stored s b

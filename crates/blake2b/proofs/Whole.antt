@@ -12,9 +12,10 @@ use lib.Dec.{leb, lit<}
 use lib.ListN.{length, getD, set, replicate, length-append, length-set, List·getD-append, List·getD-eq-default}
 use lib.Seq.{ext-getD, getD-set-same, getD-set-other, getD-append-seam, append-snoc}
 use Rattle.blake2b.specs.Rfc7693.{F, tab, chain, block, digest, hash, before}
+use Rattle.fields.specs.Tests.{pick}
 use Rattle.refusal.specs.declared.Refusal.the-variants.{TooLong}
 use Rattle.blake2b.specs.declared.Answer.the-variants.{Done, Refused}
-use Rattle.blake2b.specs.Calls.{limit, pick}
+use Rattle.blake2b.specs.Calls.{limit}
 use Rattle.blake2b.specs.Running.{rest, stateAt, after, pushed, pushes, stored, flushed, finished, fed, fedAfter, Feeds}
 use Rattle.blake2b.specs.declared.running.Hasher.{Hasher}
 use Rattle.blake2b.specs.declared.running.Fed.{Fed}

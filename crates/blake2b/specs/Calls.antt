@@ -2,9 +2,9 @@
 use Prim.Native.Nat.{ℕ}
 use mathlib.Core.Path.{_≡_}
 use mathlib.Core.List.{List}
-use mathlib.Core.Bool.{Bool, true, false}
 use lib.Dec.{ltb, eqb}
 use lib.ListN.{length}
+use Rattle.fields.specs.Tests.{pick}
 use Rattle.refusal.specs.Numbers.{numberOf}
 use Rattle.refusal.specs.declared.Refusal.{Refusal}
 use Rattle.refusal.specs.declared.Refusal.the-variants.{Length, TooLong}
@@ -15,11 +15,6 @@ use Rattle.blake2b.specs.declared.Answer.the-variants.{Done, Refused}
 -- the most bytes that the hash takes in all
 abbrev pub limit : ℕ
 limit = 4096
-
--- the first where the test holds, else the second
-abbrev pub pick {ℓ} : {A : Type ℓ} → Bool → A → A → A
-pick true a b = a
-pick false a b = b
 
 -- document 01's number of an answer
 abbrev pub answerNumber : Answer → ℕ

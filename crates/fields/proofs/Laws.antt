@@ -1,11 +1,17 @@
--- Laws of fields: what a part that was lent leaves, and fields written one after the other.
+-- Laws of fields: what a part that was lent leaves, fields written one after the other, and lists of bytes.
 use mathlib.Core.Path.{_≡_, refl, sym, ap, _∙_}
-use mathlib.Core.List.{List, [], _∷_, _++_, append-assoc, append-nil}
-use Prim.Native.Nat.{ℕ, _+_, _-_, _≤_, _<_}
+use mathlib.Core.List.{List, [], _∷_, _++_, append-assoc, append-nil, map}
+use mathlib.Core.Bool.{true, false, _&&_}
+use Prim.Native.Nat.{ℕ, zero, suc, _+_, _-_, _%_, _≤_, _<_}
+use native.Mathlib.Nat.{mod-lt}
 use native.Mathlib.Omega.{arith}
-use lib.ListN.{length, take, drop, length-append, length-drop, drop-of-length-le}
-use lib.Seq.{paste, take-length, length-take-le, take-at, drop-append-add, drop-drop}
-use Rattle.fields.specs.Fields.{part, put}
+use lib.ListN.{length, getD, replicate, take, drop, length-append, length-take, length-drop, drop-of-length-le}
+use lib.Seq.{paste, take-all, take-length, length-take-le, take-at, drop-at, drop-drop, drop-append-add, take-append-le, drop-append-le, drop-cons}
+use native.Mathlib.Numerals.{add-one}
+use lib.Dec.{eqb}
+use borrow.Author.Tests.{eq-eqb, ne-eqb}
+use Rattle.fields.specs.Fields.{part, put, Bytes}
+use Rattle.fields.specs.Tests.{same}
 
 -- a copy of the whole of v is v put there
 pub paste-whole : (d : List ℕ) (at : ℕ) (v : List ℕ) → paste d at v (length v) ≡ put d at (length v) v
@@ -25,7 +31,12 @@ filled-by x d at n h l =
     let e : at + n - at ≡ n = omega arith in
     rw (e, length-part d at n h, put-whole x (part d at n) n l)
 
--- n bytes written right after a front p
+-- a field of a list's front
+pub part-front : (x y : List ℕ) (at n : ℕ) → at + n ≤ length x → part (x ++ y) at n ≡ part x at n
+part-front x y at n h =
+    rw (drop-append-le at x y (let z : at ≤ length x = omega arith in z)) (take-append-le n (drop at x) y (rw length-drop (omega arith)))
+
+-- a field written right after a front p
 pub put-after : (p q v : List ℕ) (at n : ℕ) → length p ≡ at → put (p ++ q) at n v ≡ p ++ (v ++ drop n q)
 put-after p q v at n e = rw (take-at p q at e, ← e, drop-append-add p q n)
 
@@ -35,3 +46,59 @@ put-two d a b d₁ d₂ n ld la p q =
     let e : drop (0 + n) d ≡ drop n d = ap (λ (k : ℕ). drop k d) (let z : 0 + n ≡ n = omega arith in z) in
     q ∙ ap (λ (x : List ℕ). put x n n b) (p ∙ ap (λ (x : List ℕ). a ++ x) e) ∙ put-after a (drop n d) b n n la
     ∙ rw (drop-drop n n d, drop-of-length-le d {i = n + n} (omega arith), append-nil)
+
+-- a field written over another of its length
+pub put-over : (p q r v : List ℕ) (at n : ℕ) → length p ≡ at → length q ≡ n → put (p ++ (q ++ r)) at n v ≡ p ++ (v ++ r)
+put-over p q r v at n lp lq = put-after p (q ++ r) v at n lp ∙ rw (drop-at q r n lq)
+
+-- The tail of xs from index a on, lent: as `&` it is drop a xs; as `&mut` it comes back as ys.
+pub tail-whole : (xs : List ℕ) (a : ℕ) → part xs a (length xs - a) ≡ drop a xs
+tail-whole xs a = take-all (length xs - a) (drop a xs) (rw length-drop (omega arith))
+
+pub length-tail : (xs : List ℕ) (a : ℕ) → length (part xs a (length xs - a)) ≡ length xs - a
+length-tail xs a = simp (length-take, length-drop) (omega arith)
+
+pub tail-back : (xs ys : List ℕ) (a : ℕ) → take a xs ++ (ys ++ drop (length xs - a) (drop a xs)) ≡ take a xs ++ ys
+tail-back xs ys a = rw (drop-of-length-le (drop a xs) {i = length xs - a} (rw length-drop (omega arith)), append-nil)
+
+pub drop-back : (xs ys : List ℕ) (a : ℕ) → a ≤ length xs → drop a (take a xs ++ (ys ++ drop (length xs - a) (drop a xs))) ≡ ys
+drop-back xs ys a h = rw (tail-back xs ys a) (drop-at (take a xs) ys a (length-take-le a xs h))
+
+-- lists of bytes
+pub bytes-append : (x y : List ℕ) → Bytes x → Bytes y → Bytes (x ++ y)
+bytes-append [] y bx by i = by i
+bytes-append (a ∷ x) y bx by zero = bx zero
+bytes-append (a ∷ x) y bx by (suc i) = bytes-append x y (λ j. bx (suc j)) by i
+
+-- a remainder by 256 is a byte
+pub bytes-low : (x : List ℕ) → Bytes (map (λ (b : ℕ). b % 256) x)
+bytes-low [] i = omega arith
+bytes-low (b ∷ x) zero = mod-lt b (omega arith)
+bytes-low (b ∷ x) (suc i) = bytes-low x i
+
+pub bytes-repeat : (n x : ℕ) → x < 256 → Bytes (replicate n x)
+bytes-repeat zero x h i = omega arith
+bytes-repeat (suc n) x h zero = h
+bytes-repeat (suc n) x h (suc i) = bytes-repeat n x h i
+
+-- a list is the same as itself
+pub same-refl : (x : List ℕ) → same x x ≡ true
+unfolding same
+same-refl [] = refl
+same-refl (a ∷ x) = rw (eq-eqb a a refl, same-refl x)
+
+-- two lists are the same from index i on if they are so at i and after it
+module _ (x y : List ℕ) (i : ℕ) (lx : i < length x) (ly : i < length y) where
+  same-cons : same (drop i x) (drop i y) ≡ (eqb (getD x i 0) (getD y i 0) && same (drop (i + 1) x) (drop (i + 1) y))
+  unfolding same
+  same-cons = rw (drop-cons x i 0 lx, drop-cons y i 0 ly, add-one)
+
+  pub same-next : getD x i 0 ≡ getD y i 0 → same (drop i x) (drop i y) ≡ same (drop (i + 1) x) (drop (i + 1) y)
+  same-next e = rw (same-cons, eq-eqb (getD x i 0) (getD y i 0) e)
+
+  pub same-not : (getD x i 0 ≡ getD y i 0 → ⊥) → same (drop i x) (drop i y) ≡ false
+  same-not f = rw (same-cons, ne-eqb (getD x i 0) (getD y i 0) f)
+
+pub same-end : (x y : List ℕ) (i : ℕ) → length x ≡ i → length y ≡ i → same (drop i x) (drop i y) ≡ true
+unfolding same
+same-end x y i lx ly = rw (drop-of-length-le x {i = i} (omega arith), drop-of-length-le y {i = i} (omega arith))

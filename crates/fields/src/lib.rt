@@ -3,6 +3,7 @@ ghost use mathlib.Core.Path.{_≡_};
 ghost use Prim.Native.Nat.{_+_, _≤_};
 ghost use lib.ListN.{length};
 ghost use Rattle.fields.specs.Fields.{part, put};
+ghost use Rattle.fields.specs.Tests.{same};
 
 // Writes bytes into out from index at on.
 pub fn write(out: &mut [u8], at: usize, bytes: &[u8])
@@ -33,4 +34,38 @@ pub fn get32(s: &[u8], at: usize) -> [u8; 32]
     let end = at + 32;
     write(&mut field, 0, &s[at..end]);
     field
+}
+
+// Writes a field of 64 bytes into out from index at on.
+pub fn put64(out: &mut [u8], at: usize, field: [u8; 64])
+    requires { ⌜ at + 64 ≤ length (now out) ⌝ }
+    ensures { λ _. ⌜ now (out .exit) ≡ put (now (out .entry)) at 64 field ⌝ }
+{
+    write(out, at, &field);
+}
+
+// The field of 64 bytes that stands in s from index at on.
+pub fn get64(s: &[u8], at: usize) -> [u8; 64]
+    requires { ⌜ at + 64 ≤ length (now s) ⌝ }
+    ensures { λ r. ⌜ r ≡ part (now (s .entry)) at 64 ⌝ }
+{
+    let mut field = [0u8; 64];
+    let end = at + 64;
+    write(&mut field, 0, &s[at..end]);
+    field
+}
+
+// Whether two slices of one length hold the same bytes.
+pub fn equal(x: &[u8], y: &[u8]) -> bool
+    requires { ⌜ length (now x) ≡ length (now y) ⌝ }
+    ensures { λ r. ⌜ r ≡ same (now (x .entry)) (now (y .entry)) ⌝ }
+{
+    let mut i: usize = 0;
+    while i < x.len() {
+        if x[i] != y[i] {
+            return false;
+        }
+        i += 1;
+    }
+    true
 }

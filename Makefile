@@ -1,0 +1,27 @@
+# What there is to do here. README.md says what each is for.
+.PHONY: help demo test desk bench clean
+
+help:
+	@echo 'make demo    build everything for the desk and show it at work'
+	@echo 'make test    every check there is: host tests, then the gate (rt ci)'
+	@echo 'make desk    build/: the library and programs with real Ed25519 (ED25519=sodium or openssl)'
+	@echo 'make bench   race the hash against libsodium and the RFC'\''s own C code'
+	@echo 'make clean   remove build/ and target/'
+
+desk:
+	@host/need gcc binutils libsodium-dev libssl-dev
+	@desk/build
+
+demo: desk
+	@host/demo
+
+test:
+	@host/test/all
+	@rt ci
+
+bench: desk
+	@host/need gcc libsodium-dev valgrind
+	@host/bench/run
+
+clean:
+	rm -rf build target

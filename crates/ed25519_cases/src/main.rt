@@ -1,0 +1,71 @@
+// Runs cases through the seam: standard input holds requests, standard output gets their answers.
+// A request is a byte (0 public key, 1 sign, 2 verify), 32 bytes of secret or key, 64 of signature, the message's length in 2, lowest first, and the message.
+// An answer is the 32-byte key, the 64-byte signature, or one byte, 1 for accepted and 0 for not.
+ghost use mathlib.Core.Path.{_≡_};
+ghost use Prim.Native.Nat.{_≤_};
+ghost use lib.ListN.{length};
+use libc::STDIN_FILENO;
+use libc::STDOUT_FILENO;
+
+fn main() {
+    let mut head = io::buffer();
+    let mut message = io::buffer();
+    serve(&mut head[0..99], &mut message);
+}
+
+// Serves requests up to the first that has no answer; a million at most, since a proved loop ends.
+fn serve(head: &mut [u8], message: &mut [u8])
+    requires { ⌜ (length (now head) ≡ 99) × (length (now message) ≡ 4096) ⌝ }
+{
+    let mut left: u32 = 1000000;
+    while left > 0 {
+        if !serve_one(head, message) {
+            return;
+        }
+        left -= 1;
+    }
+}
+
+// Reads a request and answers it; false where it is cut off, too long or unknown.
+fn serve_one(head: &mut [u8], message: &mut [u8]) -> bool
+    requires { ⌜ (length (now head) ≡ 99) × (length (now message) ≡ 4096) ⌝ }
+{
+    if io::read_full(STDIN_FILENO, head) < 99 {
+        return false;
+    }
+    let size = wide(head[97]) + 256 * wide(head[98]);
+    if size > 4096 {
+        return false;
+    }
+    if io::read_full(STDIN_FILENO, &mut message[0..size]) < size {
+        return false;
+    }
+    answer(head, &message[0..size])
+}
+
+// Writes the answer to one request; false where there is none.
+fn answer(head: &[u8], message: &[u8]) -> bool
+    requires { ⌜ length (now head) ≡ 99 ⌝ }
+{
+    let op = head[0];
+    let key = fields::get32(head, 1);
+    if op == 0 {
+        return io::write_all(STDOUT_FILENO, &ed25519::public_key(key));
+    }
+    if op == 1 {
+        return io::write_all(STDOUT_FILENO, &ed25519::sign(key, message));
+    }
+    if op == 2 {
+        let mut signature = [0u8; 64];
+        fields::write(&mut signature, 0, &head[33..97]);
+        let verdict = [ed25519::verify(key, message, signature) as u8];
+        return io::write_all(STDOUT_FILENO, &verdict);
+    }
+    false
+}
+
+fn wide(b: u8) -> usize
+    ensures { λ r. ⌜ r ≤ 255 ⌝ }
+{
+    b as usize
+}

@@ -1,0 +1,56 @@
+#!/usr/bin/env python3
+"""Writes what the program ed25519_cases reads and must write under the gate, from the model of the stand-in.
+With --check it writes nothing and says whether the two files are those."""
+import pathlib
+import sys
+
+import standin
+from frames import ask_key, ask_sign, ask_verify, flipped, verdict
+
+FOLDER = pathlib.Path(__file__).resolve().parents[2] / "crates" / "ed25519_cases"
+SECRETS = [bytes(32), bytes([255]) * 32, bytes(range(32))]
+MESSAGES = [b"", b"\0", b"abc", bytes(range(256)), bytes(4095), bytes(i * 7 % 256 for i in range(4096))]
+
+
+def good(secret, message):
+    """A signature made and accepted."""
+    key, signature = standin.public_key(secret), standin.sign(secret, message)
+    yield ask_sign(secret, message), signature
+    yield ask_verify(key, message, signature), verdict(True)
+
+
+def damaged(secret, message):
+    """The first and last bit of key, message and signature, changed one at a time, and a message cut and lengthened."""
+    key, signature = standin.public_key(secret), standin.sign(secret, message)
+    tries = [(flipped(key, bit), message, signature) for bit in (0, 255)]
+    tries += [(key, flipped(message, bit), signature) for bit in (0, 8 * len(message) - 1)]
+    tries += [(key, message, flipped(signature, bit)) for bit in (0, 511)]
+    tries += [(key, message[:-1], signature), (key, message + b"\0", signature)]
+    for case in tries:
+        yield ask_verify(*case), verdict(standin.verify(*case))
+
+
+def cases():
+    for secret in SECRETS + [flipped(SECRETS[2], bit) for bit in (0, 255)]:
+        yield ask_key(secret), standin.public_key(secret)
+    for secret in SECRETS:
+        for message in MESSAGES:
+            yield from good(secret, message)
+    for message in MESSAGES[1:4]:
+        yield from damaged(SECRETS[2], message)
+
+
+def main():
+    requests, answers = zip(*cases())
+    made = {"stdin": b"".join(requests), "stdout": b"".join(answers)}
+    if sys.argv[1:] == ["--check"]:
+        for name, data in made.items():
+            if (FOLDER / name).read_bytes() != data:
+                sys.exit(f"crates/ed25519_cases/{name} is not what host/model/seam_cases.py writes")
+        print(f"seam cases: {len(requests)} requests and answers are those of the model")
+    else:
+        for name, data in made.items():
+            (FOLDER / name).write_bytes(data)
+
+
+main()
