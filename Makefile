@@ -21,7 +21,8 @@ test:
 
 bench: desk
 	@host/need gcc libsodium-dev valgrind
-	@host/bench/run
+	@rt staticlib blake2b_race >build/obj/race.log || { cat build/obj/race.log; exit 1; }
+	@host/bench/run build/libkes.a target/staticlib/libblake2b_race.a
 
 clean:
 	rm -rf build target
