@@ -1,9 +1,9 @@
 -- Laws of fields: what a part that was lent leaves, fields written one after the other, and lists of bytes.
-use mathlib.Core.Path.{_≡_, refl, sym, ap, _∙_}
+use mathlib.Core.Path.{_≡_, refl, ap, _∙_}
 use mathlib.Core.List.{List, [], _∷_, _++_, append-assoc, append-nil, map}
 use mathlib.Core.Bool.{true, false, _&&_}
 use Prim.Native.Nat.{ℕ, zero, suc, _+_, _-_, _%_, _≤_, _<_}
-use native.Mathlib.Nat.{mod-lt}
+use native.Mathlib.Nat.{zero-add, mod-lt}
 use native.Mathlib.Omega.{arith}
 use lib.ListN.{length, getD, replicate, take, drop, length-append, length-take, length-drop, drop-of-length-le}
 use lib.Seq.{paste, take-all, take-length, length-take-le, take-at, drop-at, drop-drop, drop-append-add, take-append-le, drop-append-le, drop-cons}
@@ -40,16 +40,22 @@ part-front x y at n h =
 pub put-after : (p q v : List ℕ) (at n : ℕ) → length p ≡ at → put (p ++ q) at n v ≡ p ++ (v ++ drop n q)
 put-after p q v at n e = rw (take-at p q at e, ← e, drop-append-add p q n)
 
--- two fields that fill the whole
-pub put-two : (d a b d₁ d₂ : List ℕ) (n : ℕ) → length d ≡ n + n → length a ≡ n → d₁ ≡ put d 0 n a → d₂ ≡ put d₁ n n b → d₂ ≡ a ++ b
-put-two d a b d₁ d₂ n ld la p q =
-    let e : drop (0 + n) d ≡ drop n d = ap (λ (k : ℕ). drop k d) (let z : 0 + n ≡ n = omega arith in z) in
-    q ∙ ap (λ (x : List ℕ). put x n n b) (p ∙ ap (λ (x : List ℕ). a ++ x) e) ∙ put-after a (drop n d) b n n la
-    ∙ rw (drop-drop n n d, drop-of-length-le d {i = n + n} (omega arith), append-nil)
-
 -- a field written over another of its length
 pub put-over : (p q r v : List ℕ) (at n : ℕ) → length p ≡ at → length q ≡ n → put (p ++ (q ++ r)) at n v ≡ p ++ (v ++ r)
 put-over p q r v at n lp lq = put-after p (q ++ r) v at n lp ∙ rw (drop-at q r n lq)
+
+-- two and three fields written one after the other at the front
+pub put-two : (d a b : List ℕ) (m n : ℕ) {d₁ d₂ : List ℕ} → length a ≡ m → d₁ ≡ put d 0 m a → d₂ ≡ put d₁ m n b
+    → d₂ ≡ (a ++ b) ++ drop (m + n) d
+put-two d a b m n la e₁ e₂ =
+    e₂ ∙ ap (λ (x : List ℕ). put x m n b) (rw zero-add at e₁) ∙ put-after a (drop m d) b m n la ∙ rw (drop-drop n m d, append-assoc)
+
+pub put-three : (d a b e : List ℕ) (l m n : ℕ) {d₁ d₂ d₃ : List ℕ} → length a ≡ l → length b ≡ m
+    → d₁ ≡ put d 0 l a → d₂ ≡ put d₁ l m b → d₃ ≡ put d₂ (l + m) n e → d₃ ≡ a ++ (b ++ (e ++ drop (l + m + n) d))
+put-three d a b e l m n la lb e₁ e₂ e₃ =
+    let lab : length (a ++ b) ≡ l + m = rw (length-append, la, lb) in
+    e₃ ∙ ap (λ (x : List ℕ). put x (l + m) n e) (put-two d a b l m la e₁ e₂) ∙ put-after (a ++ b) (drop (l + m) d) e (l + m) n lab
+    ∙ rw (drop-drop n (l + m) d, append-assoc)
 
 -- The tail of xs from index a on, lent: as `&` it is drop a xs; as `&mut` it comes back as ys.
 pub tail-whole : (xs : List ℕ) (a : ℕ) → part xs a (length xs - a) ≡ drop a xs

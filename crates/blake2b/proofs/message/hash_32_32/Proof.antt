@@ -1,4 +1,5 @@
-use mathlib.Core.Path.{_≡_, refl, ap, _∙_}
+use mathlib.Core.Path.{_≡_, ap, _∙_}
+use mathlib.Core.List.{_++_, append-nil}
 use lib.ListN.{length, replicate}
 use Rattle.fields.proofs.Laws.{put-two}
 use borrow.Author.Needs.{needs}
@@ -10,8 +11,10 @@ returns : tie.Need-returns
 returns c =
     let a = c .before .before .before .before .before .before .before .before .args in
     let long : length (a .x) ≡ 32 = search needs in
-    c .digest .ensures
-    ∙ ap hash (put-two (replicate 64 0) (a .x) (a .y) _ _ 32 refl long (c .before .before .before .before .before .before .put32 .ensures) (c .before .before .before .put322 .ensures))
+    let both =
+    put-two (replicate 64 0) (a .x) (a .y) 32 32 long (c .before .before .before .before .before .before .put32 .ensures)
+    (c .before .before .before .put322 .ensures) in
+    c .digest .ensures ∙ ap hash (both ∙ append-nil (a .x ++ a .y))
 
 pub hash-32-32-spec : {M : Type 1} → statement M
 hash-32-32-spec =
