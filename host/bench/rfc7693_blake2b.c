@@ -1,7 +1,7 @@
 // blake2b.c
 // A simple BLAKE2b Reference Implementation.
 
-// The reference implementation in RFC 7693, Appendix C.2: the race calls it without a key.
+// Follows the reference implementation of RFC 7693, Appendix C; the race calls it without a key.
 
 #include "rfc7693_blake2b.h"
 
