@@ -1,8 +1,8 @@
 -- What every digest is: 32 bytes. The crates above know no more of the hash.
-use mathlib.Core.Path.{_≡_, subst, sym}
+use mathlib.Core.Path.{_≡_}
 use mathlib.Core.List.{List}
 use mathlib.Core.Logic.{⊎-elim}
-use Prim.Native.Nat.{ℕ, _/_, _%_, _≤_, _<_}
+use Prim.Native.Nat.{ℕ, _/_, _%_, _<_}
 use native.Mathlib.Omega.{arith}
 use lib.ListN.{length, getD, List·getD-eq-default}
 use Rattle.fields.specs.Fields.{Bytes}

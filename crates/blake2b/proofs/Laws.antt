@@ -1,6 +1,6 @@
 -- Laws of RFC 7693's definitions that several proofs cite.
 use mathlib.Core.Path.{_≡_, refl, sym, ap, ap₂, _∙_, subst}
-use mathlib.Core.Bool.{Bool, true, false}
+use mathlib.Core.Bool.{true, false}
 use mathlib.Core.List.{List, [], _∷_, _++_}
 use Prim.Native.Nat.{ℕ, zero, suc, _+_, _-_, _*_, _/_, _%_, _^_, _≤_, _<_}
 use mathlib.Core.Logic.{⊎-elim}
@@ -10,7 +10,7 @@ use native.Mathlib.Omega.{arith}
 use lib.Dec.{lit<}
 use lib.ListN.{length, getD, set, take, drop, replicate, length-append, length-drop, length-replicate, List·getD-append}
 use lib.Seq.{take-suc, take-suc-set, take-all, set-getD, getD-at, getD-drop, ext-getD}
-use lib.Bits.{bitXor, xor-zero-r}
+use lib.Bits.{xor-zero-r}
 use Rattle.fields.specs.Fields.{put}
 use Rattle.blake2b.specs.Rfc7693.{tab, IV, xorAt, counted, start, chain, F, word, block}
 use Rattle.blake2b.specs.Running.{rest}

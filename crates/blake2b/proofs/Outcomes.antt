@@ -1,5 +1,5 @@
 -- The outcome of `hash` in each of its three cases, and that no second outcome of `hash`, `feed` or `digest` fits its contract.
-use mathlib.Core.Path.{_≡_, refl, sym, ap, _∙_}
+use mathlib.Core.Path.{_≡_, sym, ap, _∙_}
 use mathlib.Core.List.{List}
 use Prim.Native.Nat.{ℕ, _≤_, _<_}
 use borrow.Author.Tests.{le-ltb, lt-ltb, eq-eqb, ne-eqb}
@@ -11,7 +11,7 @@ use Rattle.blake2b.specs.Running.{Feeds, Digests}
 use Rattle.blake2b.specs.declared.running.Hasher.{Hasher}
 use Rattle.blake2b.specs.declared.running.Fed.{Fed}
 use Rattle.blake2b.specs.declared.Answer.{Answer}
-use Rattle.blake2b.specs.declared.Answer.the-variants.{Done, Refused}
+use Rattle.blake2b.specs.declared.Answer.the-variants.{Done}
 
 -- the contract, from the outcome
 pub hashes : (m out : List ℕ) (o : Outcome) → hashOutcome m out ≡ o → Hashes m out (o .answer) (o .message) (o .out)

@@ -2,7 +2,7 @@
 use mathlib.Core.Path.{_≡_, refl, sym, ap, _∙_}
 use mathlib.Core.Bool.{Bool, true, false}
 use mathlib.Core.List.{List, [], _∷_, _++_}
-use Prim.Native.Nat.{ℕ, zero, suc, _+_, _-_, _≤_, _<_}
+use Prim.Native.Nat.{ℕ, suc, _+_, _-_, _≤_, _<_}
 use native.Mathlib.Nat.{add-zero}
 use native.Mathlib.Numerals.{add-one}
 use native.Mathlib.Omega.{arith}
@@ -15,7 +15,6 @@ use Rattle.refusal.specs.declared.Refusal.the-variants.{TooLong}
 use Rattle.blake2b.specs.Calls.{limit}
 use Rattle.blake2b.specs.Running.{pushed, pushes, stored, storedAll, flushed, fed}
 use Rattle.blake2b.specs.declared.running.Hasher.{Hasher}
-use Rattle.blake2b.specs.declared.running.Fed.{Fed}
 use Rattle.blake2b.specs.declared.Answer.the-variants.{Done, Refused}
 
 pub pick-true : {A : Type 0} (t : Bool) (a b : A) → t ≡ true → pick t a b ≡ a

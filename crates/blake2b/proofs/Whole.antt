@@ -1,22 +1,21 @@
 -- The running hash of a message, fed in any cuts, is the hash of the whole message.
-use mathlib.Core.Path.{_≡_, refl, sym, ap, ap₂, _∙_, subst}
+use mathlib.Core.Path.{_≡_, refl, sym, ap, ap₂, _∙_}
 use mathlib.Core.Bool.{Bool, true, false}
 use mathlib.Core.List.{List, [], _∷_, _++_, append-nil, append-assoc}
 use mathlib.Core.Logic.{_⊎_, inl, inr, ⊎-elim}
-use Prim.Native.Nat.{ℕ, zero, suc, _+_, _-_, _*_, _/_, _≤_, _<_}
-use native.Mathlib.Nat.{eq-or-lt-of-le, zero-add}
+use Prim.Native.Nat.{ℕ, zero, suc, _+_, _-_, _*_, _≤_, _<_}
+use native.Mathlib.Nat.{eq-or-lt-of-le}
 use borrow.Author.Tests.{leb-true, leb-false}
-use native.Mathlib.Numerals.{add-one}
 use native.Mathlib.Omega.{arith}
 use lib.Dec.{leb, lit<}
 use lib.ListN.{length, getD, set, replicate, length-append, length-set, List·getD-append, List·getD-eq-default}
-use lib.Seq.{ext-getD, getD-set-same, getD-set-other, getD-append-seam, append-snoc}
+use lib.Seq.{ext-getD, getD-set-same, getD-set-other, getD-append-seam}
 use Rattle.blake2b.specs.Rfc7693.{F, tab, chain, block, digest, hash, before}
 use Rattle.fields.specs.Tests.{pick}
 use Rattle.refusal.specs.declared.Refusal.the-variants.{TooLong}
 use Rattle.blake2b.specs.declared.Answer.the-variants.{Done, Refused}
 use Rattle.blake2b.specs.Calls.{limit}
-use Rattle.blake2b.specs.Running.{rest, stateAt, after, pushed, pushes, stored, flushed, finished, fed, fedAfter, Feeds}
+use Rattle.blake2b.specs.Running.{rest, stateAt, after, pushed, pushes, finished, fed, fedAfter, Feeds}
 use Rattle.blake2b.specs.declared.running.Hasher.{Hasher}
 use Rattle.blake2b.specs.declared.running.Fed.{Fed}
 use Rattle.blake2b.proofs.Laws.{getD-tab, length-tab, tab-ext, block-same, block-rest, chain-more}

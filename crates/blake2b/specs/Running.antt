@@ -1,5 +1,5 @@
 -- The running hash on every state and every input: document 01, "a value that takes bytes and hands itself back; refused bytes leave it equal".
-use Prim.Native.Nat.{ℕ, zero, suc, _+_, _-_, _*_}
+use Prim.Native.Nat.{ℕ, _+_, _-_, _*_}
 use mathlib.Core.Path.{_≡_}
 use mathlib.Core.List.{List, [], _∷_, _++_}
 use mathlib.Core.Bool.{true, false}
