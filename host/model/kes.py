@@ -1,0 +1,281 @@
+"""The evolving key, written a second time from the text of document 01 alone: the independent side of every comparison.
+
+Inside, a tree, a signature and a table are bytes. The calls take bytearrays and write to them as 01 says, so that what stands in
+them afterwards is part of the answer. Each rule is a method of its own: a test that plants an error overrides one.
+"""
+import functools
+import hashlib
+
+DONE, HEIGHT, SEED_OR_KEY, TABLE, LENGTH, NOT_LATER, PAST_END, TOO_LONG = range(8)
+NOT_ACCEPTED = 100
+
+TALLEST = 12
+LONGEST = 4096
+ZEROS = bytes(32)
+
+
+def H(data):
+    return hashlib.blake2b(data, digest_size=32).digest()
+
+
+def left(seed):
+    """Rule 1."""
+    return H(b"\0" + seed)
+
+
+def right(seed):
+    """Rule 1."""
+    return H(b"\1" + seed)
+
+
+def highest_difference(a, b):
+    """Rule 5: the highest bit in which two steps differ."""
+    return (a ^ b).bit_length() - 1
+
+
+def tree_size(h):
+    return 96 * h + 64
+
+
+def sum_size(h):
+    """Rule 6."""
+    return 96 + 32 * h
+
+
+def steps(h1, h2):
+    """Rule 7: T."""
+    return 2 ** (h1 + h2)
+
+
+def signature_size(h1, h2):
+    """Rule 8."""
+    return sum_size(h1) + sum_size(h2) + 32
+
+
+def table_size(h1, h2):
+    return 8 + tree_size(h1) + sum_size(h1) + 32 + tree_size(h2)
+
+
+def header(h1, h2, step):
+    return bytes([h1, h2, 0, 0]) + step.to_bytes(4, "little")
+
+
+def read_header(table):
+    """The two heights and the step, or None where the number is 3."""
+    if len(table) < 8 or max(table[:2]) > TALLEST or any(table[2:4]):
+        return None
+    h1, h2, step = table[0], table[1], int.from_bytes(table[4:8], "little")
+    if len(table) != table_size(h1, h2) or step >= steps(h1, h2):
+        return None
+    return h1, h2, step
+
+
+def cut(data, *sizes):
+    """data in parts of these sizes, one after the other."""
+    parts = []
+    for size in sizes:
+        parts.append(bytes(data[:size]))
+        data = data[size:]
+    return parts
+
+
+def read_body(table, h1, h2):
+    """The parent tree, the parent's sum signature, the next seed, the child tree."""
+    return cut(table[8:], tree_size(h1), sum_size(h1), 32, tree_size(h2))
+
+
+def hash_call(message, out):
+    """BLAKE2b as a caller has it: 7, 4."""
+    if len(message) > LONGEST:
+        return TOO_LONG
+    if len(out) != 32:
+        return LENGTH
+    out[:] = H(message)
+    return DONE
+
+
+class Scheme:
+    """The scheme over the three outside calls of ed: public_key, sign, verify."""
+
+    def __init__(self, ed):
+        self.ed = ed
+        # a fixed function of its input, so a key pair need not be made twice
+        self.public_key = functools.lru_cache(maxsize=None)(ed.public_key)
+
+    # One tree: rules 2 to 6.
+
+    def leaf(self, seed):
+        """Rule 2: the leaf's secret is the seed, vk its public key."""
+        return seed + self.public_key(seed)
+
+    def subtree_hash(self, seed, h):
+        """Rule 3."""
+        if h == 0:
+            return H(self.public_key(seed))
+        return H(self.subtree_hash(left(seed), h - 1) + self.subtree_hash(right(seed), h - 1))
+
+    def spent(self, seed):
+        """Rule 4: what stands in a right seed's place once the path goes right."""
+        return ZEROS
+
+    def tree_at(self, seed, h, t):
+        """Rule 4: the tree at step t, root first."""
+        if h == 0:
+            return self.leaf(seed)
+        hashes = self.subtree_hash(left(seed), h - 1) + self.subtree_hash(right(seed), h - 1)
+        goes_right, below = divmod(t, 2 ** (h - 1))
+        if goes_right:
+            return self.spent(right(seed)) + hashes + self.tree_at(right(seed), h - 1, below)
+        return right(seed) + hashes + self.tree_at(left(seed), h - 1, below)
+
+    def root(self, tree, h):
+        """Rule 3, as stored: from the top level's two hashes, at height 0 from vk."""
+        return H(tree[32:64]) if h == 0 else H(tree[32:96])
+
+    def moved(self, tree, h, a, b):
+        """Rule 5: the tree at step a, whatever its bytes, moved forward to step b."""
+        bit = highest_difference(a, b)
+        above, seed, hashes = cut(tree, 96 * (h - 1 - bit), 32, 64)
+        return above + self.spent(seed) + hashes + self.tree_at(seed, bit, b % 2**bit)
+
+    def witnesses(self, tree, h, t):
+        """Rule 6, as stored: from the leaf upwards, the left hash where the path goes right, else the right hash."""
+        found = []
+        for bit in range(h):
+            _, left_hash, right_hash = cut(tree[96 * (h - 1 - bit) :], 32, 32, 32)
+            found.append(left_hash if t >> bit & 1 else right_hash)
+        return found
+
+    def sum_signature(self, tree, h, t, message):
+        """Rule 6."""
+        secret, vk = cut(tree[96 * h :], 32, 32)
+        return vk + self.ed.sign(secret, message) + b"".join(self.witnesses(tree, h, t))
+
+    def climb(self, x, witnesses, t):
+        """Rule 6: x on the left where that bit of t is 0, lowest bit first."""
+        for bit, witness in enumerate(witnesses):
+            x = H(witness + x) if t >> bit & 1 else H(x + witness)
+        return x
+
+    def sum_verdict(self, root, h, t, message, signature):
+        """Rule 6: the path fits, and Ed25519 says yes."""
+        vk, signed, *witnesses = cut(signature, 32, 64, *[32] * h)
+        return self.climb(H(vk), witnesses, t) == root and self.ed.verify(vk, message, signed)
+
+    def count_new(self, h):
+        return 2**h
+
+    def count_move(self, a, b):
+        """Entering the right half of a subtree of height k grows 2^(k-1); then the move inside that half."""
+        if a == b:
+            return 0
+        k = highest_difference(a, b) + 1
+        return 2 ** (k - 1) + self.count_move(0, b % 2 ** (k - 1))
+
+    # The product key: rules 7 and 8.
+
+    def chain(self, stored, parent_steps):
+        """Rule 7: the child's seed and the seed that is then stored, after so many parent steps."""
+        for _ in range(parent_steps):
+            child, stored = left(stored), right(stored)
+        return child, stored
+
+    def without_secret(self, tree, h):
+        """Rule 7: the leaf's secret made zero."""
+        levels, _, vk = cut(tree, 96 * h, 32, 32)
+        return levels + ZEROS + vk
+
+    def body(self, h1, t1, parent, next_seed, h2, child):
+        """Rule 7: the parent leaf signs the child's root, and its secret goes."""
+        signature = self.sum_signature(parent, h1, t1, self.root(child, h2))
+        return self.without_secret(parent, h1) + signature + next_seed + child
+
+    def make(self, h1, h2, seed, table):
+        """1, 2, 4. Answers the number and the count; a made key zeroes the lent seed."""
+        if max(h1, h2) > TALLEST:
+            return HEIGHT, 0
+        if len(seed) != 32:
+            return SEED_OR_KEY, 0
+        if len(table) != table_size(h1, h2):
+            return LENGTH, 0
+        child_seed, next_seed = self.chain(right(seed), 1)
+        parent, child = self.tree_at(left(seed), h1, 0), self.tree_at(child_seed, h2, 0)
+        table[:] = header(h1, h2, 0) + self.body(h1, 0, parent, next_seed, h2, child)
+        seed[:] = ZEROS
+        return DONE, self.count_new(h1) + self.count_new(h2)
+
+    def read_key(self, table, key):
+        """3, 4. The verification key is the parent's root."""
+        found = read_header(table)
+        if found is None:
+            return TABLE
+        if len(key) != 32:
+            return LENGTH
+        h1, h2, _ = found
+        key[:] = self.root(read_body(table, h1, h2)[0], h1)
+        return DONE
+
+    def move(self, table, step):
+        """3, 6, 5. Answers the number and the count."""
+        found = read_header(table)
+        if found is None:
+            return TABLE, 0
+        h1, h2, now = found
+        if step >= steps(h1, h2):
+            return PAST_END, 0
+        if step <= now:
+            return NOT_LATER, 0
+        same_child = now >> h2 == step >> h2
+        body, count = (self.move_child if same_child else self.move_parent)(table, h1, h2, now, step)
+        table[:] = header(h1, h2, step) + body
+        return DONE, count
+
+    def move_child(self, table, h1, h2, now, step):
+        """The parent step stays, and all of the parent with it."""
+        t2, new_t2 = now % 2**h2, step % 2**h2
+        parent, signature, next_seed, child = read_body(table, h1, h2)
+        return parent + signature + next_seed + self.moved(child, h2, t2, new_t2), self.count_move(t2, new_t2)
+
+    def move_parent(self, table, h1, h2, now, step):
+        """The parent moves, and a new child grows and moves to its step."""
+        t1, (new_t1, new_t2) = now // 2**h2, divmod(step, 2**h2)
+        parent, _, stored, _ = read_body(table, h1, h2)
+        child_seed, next_seed = self.chain(stored, new_t1 - t1)
+        parent, child = self.moved(parent, h1, t1, new_t1), self.tree_at(child_seed, h2, new_t2)
+        count = self.count_move(t1, new_t1) + self.count_new(h2) + self.count_move(0, new_t2)
+        return self.body(h1, new_t1, parent, next_seed, h2, child), count
+
+    def sign(self, table, message, out):
+        """3, 7, 4."""
+        found = read_header(table)
+        if found is None:
+            return TABLE
+        if len(message) > LONGEST:
+            return TOO_LONG
+        h1, h2, step = found
+        if len(out) != signature_size(h1, h2):
+            return LENGTH
+        _, parent_signature, _, child = read_body(table, h1, h2)
+        out[:] = parent_signature + self.sum_signature(child, h2, step % 2**h2, bytes(message)) + self.root(child, h2)
+        return DONE
+
+    def verify(self, h1, h2, key, step, message, signature):
+        """1, 2, 4, 7, 6; then 0 or 100."""
+        if max(h1, h2) > TALLEST:
+            return HEIGHT
+        if len(key) != 32:
+            return SEED_OR_KEY
+        if len(signature) != signature_size(h1, h2):
+            return LENGTH
+        if len(message) > LONGEST:
+            return TOO_LONG
+        if step >= steps(h1, h2):
+            return PAST_END
+        accepted = self.product_verdict(h1, h2, key, step, bytes(message), signature)
+        return DONE if accepted else NOT_ACCEPTED
+
+    def product_verdict(self, h1, h2, key, step, message, signature):
+        """Rule 8: the parent's over R2 at t1 under the verification key, the child's over the message at t2 under R2."""
+        t1, t2 = divmod(step, 2**h2)
+        parents, childs, r2 = cut(signature, sum_size(h1), sum_size(h2), 32)
+        return self.sum_verdict(key, h1, t1, r2, parents) and self.sum_verdict(r2, h2, t2, message, childs)

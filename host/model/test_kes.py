@@ -1,0 +1,256 @@
+#!/usr/bin/env python3
+"""The model against document 01's own sums and promises, with the stand-in. A line for each group, with the cases it ran."""
+import itertools
+
+import kes
+import standin
+from kes import Scheme, signature_size, steps, table_size, tree_size
+from planted import PLANTED
+
+MODEL = Scheme(standin)
+HEIGHTS = [(0, 0), (1, 0), (0, 1), (2, 2), (3, 2)]
+SEED = bytes(range(1, 33))
+MESSAGE = b"1111222233334444" b"1" b"2500"
+
+
+def made(h1, h2, scheme=MODEL):
+    table = bytearray(table_size(h1, h2))
+    assert scheme.make(h1, h2, bytearray(SEED), table)[0] == kes.DONE
+    return table
+
+
+def moved(table, step, scheme=MODEL):
+    """The table after a move, and the count."""
+    later = bytearray(table)
+    number, count = scheme.move(later, step)
+    assert number == kes.DONE
+    return later, count
+
+
+def at(h1, h2, step, scheme=MODEL):
+    """The table of a step, moved straight."""
+    table = made(h1, h2, scheme)
+    return moved(table, step, scheme)[0] if step > 0 else table
+
+
+def key_of(table, scheme=MODEL):
+    key = bytearray(32)
+    assert scheme.read_key(table, key) == kes.DONE
+    return key
+
+
+def signed(table, message=MESSAGE, scheme=MODEL):
+    signature = bytearray(signature_size(table[0], table[1]))
+    assert scheme.sign(table, message, signature) == kes.DONE
+    return signature
+
+
+def junk(size):
+    return bytes(i * 37 % 256 for i in range(size))
+
+
+def sums():
+    """A1 to A14."""
+    assert [table_size(h, h) for h in (0, 2, 12)] == [264, 712, 2952]
+    assert [signature_size(h, h) for h in (0, 2, 12)] == [224, 352, 992]
+    assert MODEL.make(0, 0, bytearray(SEED), bytearray(264)) == (kes.DONE, 2)
+    assert MODEL.make(2, 2, bytearray(SEED), bytearray(712)) == (kes.DONE, 8)
+    assert [moved(at(2, 2, a), b)[1] for a, b in [(0, 1), (0, 3), (3, 4), (4, 6), (0, 15)]] == [1, 3, 5, 2, 10]
+    assert moved(made(1, 0), 1)[1] == 2
+    return 14
+
+
+def trees():
+    """A tree at a, moved to b, is the tree at b; every step has the root of the seed."""
+    cases = 0
+    for h in range(6):
+        straight = [MODEL.tree_at(SEED, h, t) for t in range(2**h)]
+        assert {MODEL.root(tree, h) for tree in straight} == {MODEL.subtree_hash(SEED, h)}
+        for a, b in itertools.combinations(range(2**h), 2):
+            assert MODEL.moved(straight[a], h, a, b) == straight[b]
+            assert MODEL.count_move(a, b) <= 2**h - 1
+            cases += 1
+    return cases
+
+
+def any_bytes():
+    """Whatever a tree's bytes: levels above the parting one stay, it keeps its hashes, and its seed grows the rest and becomes zeros."""
+    h, cases = 5, 0
+    found = junk(tree_size(h))
+    for a, b in itertools.combinations(range(2**h), 2):
+        after = MODEL.moved(found, h, a, b)
+        below = max(k for k in range(h) if a >> k != b >> k)
+        parting = 96 * (h - 1 - below)
+        above, seed, hashes = kes.cut(found, parting, 32, 64)
+        assert after == above + kes.ZEROS + hashes + MODEL.tree_at(seed, below, b % 2**below)
+        cases += 1
+    return cases
+
+
+def moves():
+    """Moved about is moved straight, with one verification key, and the counts are within their bounds."""
+    cases = 0
+    for h1, h2 in HEIGHTS:
+        straight = [at(h1, h2, t) for t in range(steps(h1, h2))]
+        assert {bytes(key_of(table)) for table in straight} == {bytes(key_of(made(h1, h2)))}
+        for a, b in itertools.combinations(range(steps(h1, h2)), 2):
+            table, count = moved(straight[a], b)
+            assert table == straight[b]
+            assert count <= (2**h2 - 1 if a >> h2 == b >> h2 else 2**h1 + 2 ** (h2 + 1) - 2)
+            cases += 1
+    return cases
+
+
+def signatures():
+    """A signature is accepted at its step alone."""
+    cases = 0
+    for h1, h2 in HEIGHTS:
+        key = key_of(made(h1, h2))
+        for t, u in itertools.product(range(steps(h1, h2)), repeat=2):
+            expected = kes.DONE if t == u else kes.NOT_ACCEPTED
+            assert MODEL.verify(h1, h2, key, u, MESSAGE, signed(at(h1, h2, t))) == expected
+            cases += 1
+    return cases
+
+
+def damaged():
+    """A bit changed in any byte of key, message or signature is noticed."""
+    good = [key_of(made(2, 2)), bytearray(MESSAGE), signed(at(2, 2, 9))]
+    cases = 0
+    for data in good:
+        for i in range(len(data)):
+            data[i] ^= 1
+            assert MODEL.verify(2, 2, good[0], 9, good[1], good[2]) == kes.NOT_ACCEPTED
+            data[i] ^= 1
+            cases += 1
+    return cases
+
+
+def seeds_of(seed, h, first, leaf_steps):
+    """Every seed of a tree, each with the steps that grow from it."""
+    yield seed, range(first, first + leaf_steps * 2**h)
+    if h > 0:
+        yield from seeds_of(kes.left(seed), h - 1, first, leaf_steps)
+        yield from seeds_of(kes.right(seed), h - 1, first + leaf_steps * 2 ** (h - 1), leaf_steps)
+
+
+def key_seeds(h1, h2):
+    """Every seed of a key, each with the steps that grow from it."""
+    end, leaf_steps = steps(h1, h2), 2**h2
+    yield SEED, range(end)
+    yield from seeds_of(kes.left(SEED), h1, 0, leaf_steps)
+    stored = kes.right(SEED)
+    for first in range(0, end, leaf_steps):
+        yield stored, range(first, end)
+        yield from seeds_of(kes.left(stored), h2, first, 1)
+        stored = kes.right(stored)
+
+
+def knows():
+    """Of the seeds that a past or the present step grows from, a table holds one: the present child leaf's secret."""
+    cases = 0
+    for h1, h2 in HEIGHTS:
+        for t in range(steps(h1, h2)):
+            table = at(h1, h2, t)
+            held = [grows for seed, grows in key_seeds(h1, h2) if seed in table]
+            assert [grows for grows in held if min(grows) <= t] == [range(t, t + 1)]
+            cases += 1
+    return cases
+
+
+def refused(call, *arguments):
+    """The number of a call, which must count 0 and leave every argument as it was."""
+    before = [bytes(argument) if isinstance(argument, bytearray) else argument for argument in arguments]
+    answer = call(*arguments)
+    assert before == list(arguments)
+    number, count = answer if isinstance(answer, tuple) else (answer, 0)
+    assert count == 0
+    return number
+
+
+def order(call, good, ways):
+    """Tries every mix of ways to be refused; the first number in 01's order is due. A way is a change of the good arguments."""
+    cases = 0
+    for mix in itertools.product(*[[{}] + changes for changes in ways.values()]):
+        due = [number for number, change in zip(ways, mix) if change]
+        if due:
+            arguments = dict(good)
+            for change in reversed(mix):
+                arguments.update(change)
+            assert refused(call, *arguments.values()) == due[0], (call, mix)
+            cases += 1
+    return cases
+
+
+def bad_tables():
+    """Each way in which a table is not one."""
+    good = made(2, 2)
+    cuts = [good[:size] for size in range(8)] + [good[:-1], good + b"\0"]
+    bytes_of_header = [(0, 13), (0, 255), (0, 3), (1, 13), (1, 255), (1, 1), (2, 1), (3, 1), (4, 16), (5, 1), (6, 1), (7, 128)]
+    return cuts + [good[:i] + bytes([value]) + good[i + 1 :] for i, value in bytes_of_header]
+
+
+def refusals():
+    """Every number, in every mix."""
+    table, key, signature = at(2, 2, 9), key_of(made(2, 2)), signed(at(2, 2, 9))
+    tall = [{"h1": 13}, {"h2": 13}, {"h1": 2**64 - 1, "h2": 2**64 - 1}]
+    tables = [{"table": bad} for bad in bad_tables()]
+    late = [{"step": 16}, {"step": 2**32 + 10}, {"step": 2**64 - 1}]
+    long = [{"message": bytes(4097)}]
+
+    def sizes(name, *wrong):
+        return [{name: bytearray(size)} for size in wrong]
+
+    make = {"h1": 2, "h2": 2, "seed": bytearray(SEED), "table": bytearray(712)}
+    cases = order(MODEL.make, make, {1: tall, 2: sizes("seed", 0, 31, 33), 4: sizes("table", 0, 711, 713)})
+    cases += order(MODEL.read_key, {"table": table, "key": bytearray(32)}, {3: tables, 4: sizes("key", 0, 31, 33)})
+    cases += order(MODEL.move, {"table": table, "step": 10}, {3: tables, 6: late, 5: [{"step": step} for step in (0, 8, 9)]})
+    sign = {"table": table, "message": MESSAGE, "out": bytearray(352)}
+    cases += order(MODEL.sign, sign, {3: tables, 7: long, 4: sizes("out", 0, 351, 353)})
+    verify = {"h1": 2, "h2": 2, "key": key, "step": 9, "message": MESSAGE, "signature": signature}
+    wrong = {1: tall, 2: sizes("key", 0, 31, 33), 4: sizes("signature", 0, 351, 353), 7: long, 6: late}
+    cases += order(MODEL.verify, verify, wrong)
+    cases += order(kes.hash_call, {"message": MESSAGE, "out": bytearray(32)}, {7: long, 4: sizes("out", 0, 31, 33)})
+    return cases
+
+
+def edges():
+    """The edges that 01 wants run."""
+    seed, table = bytearray(SEED), bytearray(table_size(12, 12))
+    assert MODEL.make(12, 12, seed, table) == (kes.DONE, 2 * 4096) and seed == kes.ZEROS
+    assert MODEL.move(table, 2**24 - 1) == (kes.DONE, 2**12 + 2**13 - 2)
+    assert refused(MODEL.make, 13, 12, bytearray(SEED), bytearray(table_size(13, 12))) == kes.HEIGHT
+    table = at(2, 2, 15)
+    assert refused(MODEL.move, table, 16) == kes.PAST_END
+    assert refused(MODEL.move, table, 15) == kes.NOT_LATER
+    for size in (0, 4096):
+        assert MODEL.verify(2, 2, key_of(table), 15, bytes(size), signed(table, bytes(size))) == kes.DONE
+    assert refused(MODEL.sign, table, bytes(4097), bytearray(352)) == kes.TOO_LONG
+    return 8
+
+
+DAY = (0, 3, 6, 14)
+
+
+def day(scheme):
+    """Table, signature and verdicts at a few steps of (2, 2), with a jump over a parent step, and past T."""
+    table = made(2, 2, scheme)
+    for step in DAY:
+        table = moved(table, step, scheme)[0] if step > 0 else table
+        signature = signed(table, MESSAGE, scheme)
+        verdicts = [scheme.verify(2, 2, key_of(table, scheme), u, MESSAGE, signature) for u in range(2 * steps(2, 2))]
+        yield table, signature, verdicts
+
+
+def errors():
+    """Each error that looks right accepts its own signatures, and yet is noticed."""
+    sound = list(day(MODEL))
+    for planted in PLANTED:
+        seen = list(day(planted(standin)))
+        assert all(verdicts[step] == kes.DONE for step, (_, _, verdicts) in zip(DAY, seen))
+        assert seen != sound, planted
+    return len(PLANTED)
+
+
+for group in [sums, trees, any_bytes, moves, signatures, damaged, knows, refusals, edges, errors]:
+    print("model: %s: %d cases" % (group.__name__, group()))

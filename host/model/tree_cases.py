@@ -1,0 +1,62 @@
+#!/usr/bin/env python3
+"""Writes what the program tree_cases must write, from the model with the stand-in.
+With --check it writes nothing and says whether crates/tree_cases/stdout is that."""
+import itertools
+import pathlib
+import sys
+
+import standin
+from kes import H, ZEROS, Scheme
+
+STORED = pathlib.Path(__file__).resolve().parents[2] / "crates" / "tree_cases" / "stdout"
+SEED = bytes(range(1, 33))
+
+
+def flipped(data, at):
+    return data[:at] + bytes([data[at] ^ 1]) + data[at + 1 :]
+
+
+def step(scheme, h, t):
+    """The tree's digest, its root, the digest of a signature; then verdicts: as it is, another message, the next step,
+    and each 32 bytes of the signature with their first changed."""
+    tree = scheme.tree_at(SEED, h, t)
+    root, signature = scheme.root(tree, h), scheme.sum_signature(tree, h, t, b"step")
+    tries = [(t, b"step", signature), (t, b"stop", signature), ((t + 1) % 2**h, b"step", signature)]
+    tries += [(t, b"step", flipped(signature, at)) for at in range(0, len(signature), 32)]
+    verdicts = "".join("%d" % scheme.sum_verdict(root, h, *case) for case in tries)
+    return "step %d %d %s %s %s %s" % (h, t, H(tree).hex(), root.hex(), H(signature).hex(), verdicts)
+
+
+def moves(scheme, h):
+    """The digests of all moved trees, each hashed onto those before it, and the sum of the counts."""
+    chain, count = ZEROS, 0
+    for a, b in itertools.combinations(range(2**h), 2):
+        chain = H(chain + H(scheme.moved(scheme.tree_at(SEED, h, a), h, a, b)))
+        count += scheme.count_move(a, b)
+    return "moves %d %s %d" % (h, chain.hex(), count)
+
+
+def tallest(scheme):
+    tree = scheme.moved(scheme.tree_at(SEED, 12, 0), 12, 0, 2049)
+    return "tallest 2049 %s %s %d" % (H(tree).hex(), scheme.root(tree, 12).hex(), scheme.count_move(0, 2049))
+
+
+def lines(scheme):
+    for h in range(5):
+        yield from (step(scheme, h, t) for t in range(2**h))
+        yield moves(scheme, h)
+    yield tallest(scheme)
+
+
+def main():
+    text = "".join(line + "\n" for line in lines(Scheme(standin)))
+    if sys.argv[1:] != ["--check"]:
+        STORED.write_text(text)
+    elif STORED.read_text() != text:
+        sys.exit("crates/tree_cases/stdout is not what host/model/tree_cases.py writes")
+    else:
+        print("tree cases: %d lines are those of the model" % len(text.splitlines()))
+
+
+if __name__ == "__main__":
+    main()
