@@ -42,8 +42,8 @@ def lines():
         answer = digest(message) if n <= LIMIT else "refused 7"
         yield "whole %d %s" % (n, answer)
         yield "cuts %d %s" % (n, answer)
-    yield "refused 7"
-    yield "refused 4"
+    yield "short refused 7"
+    yield "short refused 4"
 
 
 def main():

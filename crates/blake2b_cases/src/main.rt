@@ -5,41 +5,28 @@ ghost use lib.ListN.{length};
 use blake2b::Answer;
 use blake2b::Fed;
 use blake2b::Hasher;
+use cases::end_line;
+use cases::show_field;
+use cases::show_number;
 use libc::STDOUT_FILENO;
 
-fn digit(n: u8) -> u8 {
-    if n < 10 { 48 + n } else { 87 + (n % 16) }
-}
-
-fn show(digest: &[u8; 32]) {
-    let mut text = [10u8; 65];
-    let mut i: usize = 0;
-    while i < 32 {
-        text[2 * i] = digit(digest[i] / 16);
-        text[2 * i + 1] = digit(digest[i] % 16);
-        i += 1;
-    }
-    io::write_all(STDOUT_FILENO, &text);
-}
-
-fn show_answer(answer: Answer, digest: &[u8; 32]) {
+fn show_answer(answer: Answer, digest: [u8; 32]) {
     match answer {
-        Answer::Done => show(digest),
+        Answer::Done => show_field(digest),
         Answer::Refused(why) => {
-            io::write_all(STDOUT_FILENO, b"refused ");
-            io::print_decimal(STDOUT_FILENO, refusal::number(why) as u64);
-            io::write_all(STDOUT_FILENO, b"\n");
+            io::write_all(STDOUT_FILENO, b" refused");
+            show_number(refusal::number(why) as u64);
         }
     }
+    end_line();
 }
 
 fn whole(message: &[u8]) {
-    io::write_all(STDOUT_FILENO, b"whole ");
-    io::print_decimal(STDOUT_FILENO, message.len() as u64);
-    io::write_all(STDOUT_FILENO, b" ");
+    io::write_all(STDOUT_FILENO, b"whole");
+    show_number(message.len() as u64);
     let mut digest = [0u8; 32];
     let answer = blake2b::hash(message, &mut digest);
-    show_answer(answer, &digest);
+    show_answer(answer, digest);
 }
 
 fn least(a: usize, b: usize) -> usize
@@ -72,14 +59,13 @@ fn feed_cuts(message: &[u8]) -> Fed {
 }
 
 fn cuts(message: &[u8]) {
-    io::write_all(STDOUT_FILENO, b"cuts ");
-    io::print_decimal(STDOUT_FILENO, message.len() as u64);
-    io::write_all(STDOUT_FILENO, b" ");
+    io::write_all(STDOUT_FILENO, b"cuts");
+    show_number(message.len() as u64);
     let fed = feed_cuts(message);
     let hasher = fed.hasher;
     let digest = hasher.digest();
     let answer = fed.answer;
-    show_answer(answer, &digest);
+    show_answer(answer, digest);
 }
 
 fn both(message: &[u8], n: usize) {
@@ -136,7 +122,7 @@ fn show_words(h: &[u64; 8]) {
         io::print_hex(STDOUT_FILENO, h[i], 16);
         i += 1;
     }
-    io::write_all(STDOUT_FILENO, b"\n");
+    end_line();
 }
 
 // Appendix A: BLAKE2b-512 of "abc", one block, so the compression function alone.
@@ -161,10 +147,12 @@ fn appendix() {
 fn short_output(message: &[u8]) {
     let mut out = [0u8; 31];
     let zeros = [0u8; 32];
+    io::write_all(STDOUT_FILENO, b"short");
     let late = blake2b::hash(message, &mut out);
-    show_answer(late, &zeros);
+    show_answer(late, zeros);
+    io::write_all(STDOUT_FILENO, b"short");
     let early = blake2b::hash(b"abc", &mut out);
-    show_answer(early, &zeros);
+    show_answer(early, zeros);
 }
 
 fn main() {

@@ -4,7 +4,46 @@ ghost use Prim.Native.Nat.{_<_, _≤_, _^_};
 ghost use lib.ListN.{length};
 ghost use Rattle.tree.specs.Tree.{treeSize};
 ghost use Rattle.tree.specs.Sum.{sumSize};
+use cases::digest;
+use cases::end_line;
+use cases::show_field;
+use cases::show_number;
 use libc::STDOUT_FILENO;
+
+const SEED: [u8; 32] = [
+    1,
+    2,
+    3,
+    4,
+    5,
+    6,
+    7,
+    8,
+    9,
+    10,
+    11,
+    12,
+    13,
+    14,
+    15,
+    16,
+    17,
+    18,
+    19,
+    20,
+    21,
+    22,
+    23,
+    24,
+    25,
+    26,
+    27,
+    28,
+    29,
+    30,
+    31,
+    32,
+];
 
 // Room for a tree of height 12. The contract gives its length alone, so that no goal spells the bytes out.
 fn room() -> [u8; 1216]
@@ -13,47 +52,8 @@ fn room() -> [u8; 1216]
     [0; 1216]
 }
 
-fn seed() -> [u8; 32] {
-    let mut bytes = [0u8; 32];
-    let mut i: usize = 0;
-    while i < 32 {
-        bytes[i] = (i + 1) as u8;
-        i += 1;
-    }
-    bytes
-}
-
-// All that is hashed here is short enough, so the hash's answer is not looked at.
-fn digest(bytes: &[u8]) -> [u8; 32] {
-    let mut out = [0u8; 32];
-    blake2b::hash(bytes, &mut out);
-    out
-}
-
-fn show_number(n: u64) {
-    io::write_all(STDOUT_FILENO, b" ");
-    io::print_decimal(STDOUT_FILENO, n);
-}
-
-fn wide(b: u8) -> u64 {
-    b as u64
-}
-
-fn show_field(field: [u8; 32]) {
-    io::write_all(STDOUT_FILENO, b" ");
-    let mut i: usize = 0;
-    while i < 32 {
-        io::print_hex(STDOUT_FILENO, wide(field[i]), 2);
-        i += 1;
-    }
-}
-
 fn show_verdict(accepted: bool) {
     io::print_decimal(STDOUT_FILENO, accepted as u64);
-}
-
-fn end_line() {
-    io::write_all(STDOUT_FILENO, b"\n");
 }
 
 // Changes the lowest bit of a byte; a second time changes it back.
@@ -111,7 +111,7 @@ fn step(h: usize, t: usize, bytes: &mut [u8], signature: &mut [u8])
     requires { ⌜ (h ≤ 12) × (t < 2 ^ h) × (length (now bytes) ≡ treeSize h) × (length (now signature) ≡ sumSize h) ⌝ }
     ensures { λ _. ⌜ (length (now (bytes .exit)) ≡ treeSize h) × (length (now (signature .exit)) ≡ sumSize h) ⌝ }
 {
-    tree::grow(seed(), h, t, bytes);
+    tree::grow(SEED, h, t, bytes);
     let root = tree::root(bytes, h);
     tree::sum_sign(bytes, h, t, b"step", signature);
     show_step(h, t, root, bytes, signature);
@@ -143,7 +143,7 @@ fn with_move(before: Folded, h: usize, a: usize, b: usize, bytes: &mut [u8]) -> 
     requires { ⌜ (h ≤ 12) × (a < b) × (b < 2 ^ h) × (length (now bytes) ≡ treeSize h) ⌝ }
     ensures { λ _. ⌜ length (now (bytes .exit)) ≡ treeSize h ⌝ }
 {
-    tree::grow(seed(), h, a, bytes);
+    tree::grow(SEED, h, a, bytes);
     let count = tree::move_tree(bytes, h, a, b);
     let chain = before.chain;
     Folded {
@@ -223,7 +223,7 @@ fn heights(bytes: &mut [u8], signature: &mut [u8])
 fn tallest(bytes: &mut [u8])
     requires { ⌜ length (now bytes) ≡ 1216 ⌝ }
 {
-    tree::grow(seed(), 12, 0, bytes);
+    tree::grow(SEED, 12, 0, bytes);
     let count = tree::move_tree(bytes, 12, 0, 2049);
     io::write_all(STDOUT_FILENO, b"tallest");
     show_number(2049);
