@@ -1,4 +1,4 @@
-"""The requests and answers of the program ed25519_cases, as src/main.rt of that crate states them."""
+"""The requests and answers of the programs ed25519_cases and sum_cases, as src/main.rt of each crate states them."""
 
 PUBLIC_KEY, SIGN, VERIFY = 0, 1, 2
 
@@ -18,6 +18,11 @@ def ask_sign(secret, message):
 
 def ask_verify(key, message, signature):
     return request(VERIFY, key, message, signature)
+
+
+def ask_sum(root, h, t, message, signature):
+    assert len(root) == 32 and len(signature) == 96 + 32 * h and len(message) <= 4096
+    return bytes([h]) + t.to_bytes(4, "little") + root + len(message).to_bytes(2, "little") + message + signature
 
 
 def verdict(accepted):
