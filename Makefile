@@ -22,7 +22,7 @@ test:
 bench: desk
 	@host/need gcc libsodium-dev valgrind
 	@rt staticlib blake2b_race >build/obj/race.log || { cat build/obj/race.log; exit 1; }
-	@host/bench/run build/libkes.a target/staticlib/libblake2b_race.a
+	@host/bench/run build/libkes.a target/staticlib/libblake2b_race.a build/libkes_sodium.a
 
 clean:
 	rm -rf build target

@@ -1,10 +1,17 @@
-/* kes.h: the evolving key of Thalvrup, for C99 and C++.
+/* kes.h: an evolving signing key, for C99 and C++.
+ *
+ * THE ORDER OF WORK. A move destroys the key of the step it leaves, so a desk keeps this order and no other:
+ *     sign, store the record, write the chip, show "done", and only then move.
  *
  * Conventions
  *   - A slice is a pointer and a length in bytes. A null pointer goes only with length 0.
- *   - No two slices lent to one call overlap.
+ *   - No two slices lent to one call overlap: not seed and table, not table and signature, not any other two.
  *   - Every call answers on every input. A refusal changes nothing that was lent.
- *   - Nothing is kept between calls: the caller owns all memory.
+ *   - Sizes are exact: a table, key or signature one byte too long is refused as one that is too short.
+ *   - Nothing is kept between calls. The caller owns all memory; a host stores a table with its length.
+ *   - One table, one thread at a time.
+ *   - kes_make and kes_move answer a number and a count in one word: take them apart with kes_number and kes_count.
+ *     Such a word is never 0 when the call is done, so `if (kes_move(..) == 0)` is always wrong.
  */
 #ifndef KES_H
 #define KES_H
@@ -23,17 +30,61 @@ extern "C" {
 #endif
 
 /* What a call can answer. */
-enum kes_number_of {
-    KES_DONE = 0,    /* done */
-    KES_LENGTH = 4,  /* output not its exact length */
-    KES_TOO_LONG = 7 /* bytes fed to the hash in all above KES_MESSAGE_MAX */
+enum kes_numbers {
+    KES_DONE = 0,         /* done, or accepted */
+    KES_HEIGHT = 1,       /* a height above KES_HEIGHT_MAX */
+    KES_SEED_OR_KEY = 2,  /* seed or verification key not 32 bytes */
+    KES_TABLE = 3,        /* not a well-formed table */
+    KES_LENGTH = 4,       /* output or signature not its exact length */
+    KES_NOT_LATER = 5,    /* new step not later than the table's */
+    KES_PAST_END = 6,     /* step at or past the last, KES_STEPS */
+    KES_TOO_LONG = 7,     /* message, or bytes fed to the hash, above KES_MESSAGE_MAX */
+    KES_NOT_ACCEPTED = 100 /* verify: well formed, not accepted */
 };
 
-#define KES_MESSAGE_MAX 4096u /* the longest message that is hashed, in bytes */
+#define KES_HEIGHT_MAX 12u
+#define KES_MESSAGE_MAX 4096u
+#define KES_SEED_SIZE 32u
+#define KES_KEY_SIZE 32u
 #define KES_DIGEST_SIZE 32u
+/* The largest sizes, at heights 12 and 12. */
+#define KES_TABLE_MAX 2952u
+#define KES_SIGNATURE_MAX 992u
 
-/* BLAKE2b (RFC 7693), no key, 32-byte digest, of message into digest.
- * Answers KES_DONE; else KES_TOO_LONG, then KES_LENGTH where digest_len is not 32. */
+/* Sizes and steps of a key of these heights, 0 where a height is above 12. */
+#define KES_HEIGHTS_FIT(h1, h2) ((h1) <= KES_HEIGHT_MAX && (h2) <= KES_HEIGHT_MAX)
+#define KES_TABLE_SIZE(h1, h2) (KES_HEIGHTS_FIT(h1, h2) ? 264u + 128u * (size_t)(h1) + 96u * (size_t)(h2) : 0u)
+#define KES_SIGNATURE_SIZE(h1, h2) (KES_HEIGHTS_FIT(h1, h2) ? 224u + 32u * ((size_t)(h1) + (size_t)(h2)) : 0u)
+
+static inline size_t kes_table_size(uint64_t h1, uint64_t h2) { return KES_TABLE_SIZE(h1, h2); }
+static inline size_t kes_signature_size(uint64_t h1, uint64_t h2) { return KES_SIGNATURE_SIZE(h1, h2); }
+static inline uint64_t kes_steps(uint64_t h1, uint64_t h2) { return KES_HEIGHTS_FIT(h1, h2) ? (uint64_t)1 << (h1 + h2) : 0; }
+
+/* The number and the count in the answer of kes_make and kes_move. */
+static inline uint32_t kes_number(uint64_t answer) { return (uint32_t)answer; }
+static inline uint32_t kes_count(uint64_t answer) { return (uint32_t)(answer >> 32); }
+
+/* Makes a key of 2^(h1+h2) steps from a seed, at step 0, and zeroes the seed.
+ * Refuses 1, 2, 4 in this order. The count is that of leaf key pairs grown.
+ *     uint64_t made = kes_make(6, 6, seed, sizeof seed, table, kes_table_size(6, 6));
+ *     if (kes_number(made) != KES_DONE) ... */
+KES_CHECKED uint64_t kes_make(uint64_t h1, uint64_t h2, uint8_t *seed, size_t seed_len, uint8_t *table, size_t table_len);
+
+/* Reads the verification key, which is the same at every step. Refuses 3, 4. */
+KES_CHECKED uint32_t kes_read_key(const uint8_t *table, size_t table_len, uint8_t *key, size_t key_len);
+
+/* Moves a key to a later step; the steps before it can never be signed again. Refuses 3, 6, 5.
+ *     uint64_t moved = kes_move(table, table_len, now);
+ *     if (kes_number(moved) == KES_DONE) ... kes_count(moved) key pairs were grown */
+KES_CHECKED uint64_t kes_move(uint8_t *table, size_t table_len, uint64_t step);
+
+/* Signs a message at the table's step. Refuses 3, 7, 4. */
+KES_CHECKED uint32_t kes_sign(const uint8_t *table, size_t table_len, const uint8_t *message, size_t message_len, uint8_t *signature, size_t signature_len);
+
+/* Verifies a signature over a message at a step. Answers KES_DONE or KES_NOT_ACCEPTED; refuses 1, 2, 4, 7, 6. */
+KES_CHECKED uint32_t kes_verify(uint64_t h1, uint64_t h2, const uint8_t *key, size_t key_len, uint64_t step, const uint8_t *message, size_t message_len, const uint8_t *signature, size_t signature_len);
+
+/* BLAKE2b (RFC 7693), no key, 32-byte digest, of message into digest; for running vectors. Refuses 7, 4. */
 KES_CHECKED uint32_t kes_hash(const uint8_t *message, size_t message_len, uint8_t *digest, size_t digest_len);
 
 #ifdef __cplusplus

@@ -5,12 +5,14 @@ import pathlib
 import re
 import subprocess
 import sys
+import tempfile
 
 ROOT = pathlib.Path(__file__).resolve().parents[2]
 sys.dont_write_bytecode = True
 sys.path.insert(0, str(ROOT / "host" / "model"))
 import ed25519
 from frames import ask_sum, flipped
+from library import VERIFY, Library
 from kes import Scheme, cut, left, signature_size, sum_size
 
 MODEL = Scheme(ed25519)
@@ -83,9 +85,10 @@ def verify_sum(cases):
 
 
 def verify_product(cases):
-    """The library's verdicts on product signatures, from its sum verdicts. The call kes_verify is to take their place here."""
-    verdicts = verify_sum([half for case in cases for half in halves(*case)])
-    return [parent and child for parent, child in zip(verdicts[::2], verdicts[1::2])]
+    """The library's verdicts on product signatures, by kes_verify."""
+    with tempfile.TemporaryDirectory() as folder:
+        library = Library(folder)
+        return [library.call(VERIFY, *heights, step, [root, message, signature])[0] == 0 for heights, root, step, message, signature in cases]
 
 
 def verify(cases):

@@ -1,17 +1,18 @@
-/* kes_test ABC NONE: the C interface across the real ABI. ABC and NONE are the digests of "abc" and of no byte, in hex. */
+/* kes_test ABC: each call of kes.h across the real ABI, with good input, each refusal, empty slices and guard bytes.
+ * ABC is the digest of "abc", in hex. */
 #include <stdio.h>
-#include <stdlib.h>
 #include <string.h>
 
 #include "kes.h"
 
-enum { GUARD = 64, FILL = 0xa5 };
+enum { GUARD = 64, FILL = 0xa5, H1 = 1, H2 = 2, STEPS = 8, MOST = 4097 };
 
 /* A buffer with guard bytes on both sides. */
 struct guarded {
-    uint8_t before[GUARD], bytes[KES_DIGEST_SIZE + 1], after[GUARD];
+    uint8_t room[GUARD + MOST + GUARD];
 };
 
+static struct guarded seed, table, key, signature, message, other;
 static int failures;
 
 static void expect(int holds, const char *what)
@@ -22,63 +23,164 @@ static void expect(int holds, const char *what)
     failures++;
 }
 
-static int filled(const uint8_t *bytes, size_t len)
+static uint8_t *in(struct guarded *g) { return g->room + GUARD; }
+
+static void clear(struct guarded *g) { memset(g->room, FILL, sizeof g->room); }
+
+/* Nothing but the first len bytes may have been written. */
+static int guarded(const struct guarded *g, size_t len)
+{
+    size_t i;
+    for (i = 0; i < sizeof g->room; i++)
+        if ((i < GUARD || i >= GUARD + len) && g->room[i] != FILL)
+            return 0;
+    return 1;
+}
+
+static int zero(const uint8_t *bytes, size_t len)
 {
     size_t i;
     for (i = 0; i < len; i++)
-        if (bytes[i] != FILL)
+        if (bytes[i] != 0)
             return 0;
     return 1;
 }
 
-static int is_hex(const uint8_t *bytes, const char *hex)
+/* A fresh key of heights 1 and 2 in table, from a seed of sevens. */
+static uint64_t make(void)
 {
+    clear(&seed);
+    clear(&table);
+    memset(in(&seed), 7, KES_SEED_SIZE);
+    return kes_make(H1, H2, in(&seed), KES_SEED_SIZE, in(&table), kes_table_size(H1, H2));
+}
+
+static void sizes(void)
+{
+    expect(kes_table_size(0, 0) == 264 && kes_table_size(2, 2) == 712 && kes_table_size(12, 12) == KES_TABLE_MAX, "the table's sizes");
+    expect(kes_signature_size(0, 0) == 224 && kes_signature_size(2, 2) == 352 && kes_signature_size(12, 12) == KES_SIGNATURE_MAX, "the signature's sizes");
+    expect(kes_steps(2, 2) == 16 && kes_steps(12, 12) == 16777216, "the steps");
+    expect(kes_table_size(13, 0) == 0 && kes_signature_size(0, 13) == 0 && kes_steps(UINT64_MAX, 0) == 0, "0 above height 12");
+}
+
+static void making(void)
+{
+    uint64_t made = make();
+    size_t size = kes_table_size(H1, H2);
+    expect(kes_number(made) == KES_DONE && kes_count(made) == 2 + 4, "a key is made, and six key pairs are grown");
+    expect(zero(in(&seed), KES_SEED_SIZE), "the lent seed is zero");
+    expect(guarded(&seed, KES_SEED_SIZE) && guarded(&table, size), "making writes nothing else");
+    memset(in(&seed), 7, KES_SEED_SIZE);
+    other = table;
+    expect(kes_make(13, 0, in(&seed), KES_SEED_SIZE, in(&table), size) == KES_HEIGHT, "height 13 is refused with 1");
+    expect(kes_make(H1, (uint64_t)1 << 32, in(&seed), KES_SEED_SIZE, in(&table), size) == KES_HEIGHT, "no height wraps into a good one");
+    expect(kes_make(H1, H2, in(&seed), 31, in(&table), size) == KES_SEED_OR_KEY, "a short seed is refused with 2");
+    expect(kes_make(H1, H2, NULL, 0, NULL, 0) == KES_SEED_OR_KEY, "an empty seed is refused with 2, before 4");
+    expect(kes_make(H1, H2, in(&seed), KES_SEED_SIZE, in(&table), size - 1) == KES_LENGTH, "a short table is refused with 4");
+    expect(memcmp(&other, &table, sizeof table) == 0 && in(&seed)[0] == 7, "a refused make changes nothing");
+}
+
+/* What the careless idiom does: a done call never answers 0. */
+static void careless(void)
+{
+    uint64_t made = make();
+    expect(made != 0 && kes_number(made) == KES_DONE, "make == 0 would take a made key for a refusal");
+}
+
+static void reading(void)
+{
+    clear(&key);
+    make();
+    expect(kes_read_key(in(&table), kes_table_size(H1, H2), in(&key), KES_KEY_SIZE) == KES_DONE, "the key is read");
+    expect(guarded(&key, KES_KEY_SIZE), "reading writes nothing else");
+    other = key;
+    expect(kes_read_key(in(&table), 7, in(&key), KES_KEY_SIZE) == KES_TABLE, "a table of 7 bytes is refused with 3");
+    expect(kes_read_key(NULL, 0, NULL, 0) == KES_TABLE, "an empty table is refused with 3, before 4");
+    expect(kes_read_key(in(&table), kes_table_size(H1, H2), in(&key), 33) == KES_LENGTH, "a long key is refused with 4");
+    expect(memcmp(&other, &key, sizeof key) == 0, "a refused reading changes nothing");
+}
+
+static void moving(void)
+{
+    size_t size = kes_table_size(H1, H2);
+    uint64_t moved;
+    make();
+    moved = kes_move(in(&table), size, 5);
+    expect(kes_number(moved) == KES_DONE && kes_count(moved) == 1 + 4 + 1, "a jump over the parent's step grows six key pairs");
+    expect(guarded(&table, size), "moving writes nothing else");
+    other = table;
+    expect(kes_move(in(&table), size, 5) == KES_NOT_LATER, "the present step is refused with 5");
+    expect(kes_move(in(&table), size, 0) == KES_NOT_LATER, "an earlier step is refused with 5");
+    expect(kes_move(in(&table), size, STEPS) == KES_PAST_END, "step 8 is refused with 6");
+    expect(kes_move(in(&table), size, ((uint64_t)1 << 32) + 6) == KES_PAST_END, "no step wraps into a good one");
+    expect(kes_move(in(&table), size - 1, 6) == KES_TABLE && kes_move(NULL, 0, 6) == KES_TABLE, "a bad table is refused with 3");
+    expect(memcmp(&other, &table, sizeof table) == 0, "a refused move changes nothing");
+}
+
+static void signing(void)
+{
+    size_t size = kes_table_size(H1, H2), signed_size = kes_signature_size(H1, H2);
+    clear(&signature);
+    clear(&message);
+    make();
+    other = table;
+    expect(kes_sign(in(&table), size, NULL, 0, in(&signature), signed_size) == KES_DONE, "an empty message is signed");
+    expect(kes_sign(in(&table), size, in(&message), KES_MESSAGE_MAX, in(&signature), signed_size) == KES_DONE, "4,096 bytes are signed");
+    expect(guarded(&signature, signed_size) && memcmp(&other, &table, sizeof table) == 0, "signing writes the signature alone");
+    other = signature;
+    expect(kes_sign(in(&table), size, in(&message), KES_MESSAGE_MAX + 1, in(&signature), signed_size) == KES_TOO_LONG, "4,097 bytes are refused with 7");
+    expect(kes_sign(in(&table), size, in(&message), KES_MESSAGE_MAX + 1, NULL, 0) == KES_TOO_LONG, "7 comes before 4");
+    expect(kes_sign(in(&table), size, in(&message), 3, in(&signature), signed_size + 1) == KES_LENGTH, "a long output is refused with 4");
+    expect(kes_sign(NULL, 0, in(&message), KES_MESSAGE_MAX + 1, NULL, 0) == KES_TABLE, "3 comes before 7");
+    expect(memcmp(&other, &signature, sizeof signature) == 0, "a refused signing changes nothing");
+}
+
+static uint32_t verify(uint64_t step, size_t key_len, size_t len, size_t signed_len)
+{
+    return kes_verify(H1, H2, in(&key), key_len, step, in(&message), len, in(&signature), signed_len);
+}
+
+static void verifying(void)
+{
+    size_t signed_size = kes_signature_size(H1, H2);
+    reading();
+    signing();
+    expect(kes_sign(in(&table), kes_table_size(H1, H2), in(&message), 40, in(&signature), signed_size) == KES_DONE, "40 bytes are signed");
+    expect(verify(0, KES_KEY_SIZE, 40, signed_size) == KES_DONE, "the signature is accepted");
+    expect(verify(1, KES_KEY_SIZE, 40, signed_size) == KES_NOT_ACCEPTED, "at another step it is not");
+    expect(verify(STEPS, KES_KEY_SIZE, 40, signed_size) == KES_PAST_END, "step T is refused with 6, not taken modulo T");
+    expect(verify(0, KES_KEY_SIZE, 39, signed_size) == KES_NOT_ACCEPTED, "over another message it is not");
+    expect(verify(0, 31, 40, signed_size) == KES_SEED_OR_KEY, "a short key is refused with 2");
+    expect(verify(0, KES_KEY_SIZE, 40, signed_size - 1) == KES_LENGTH, "a short signature is refused with 4");
+    expect(verify(STEPS, KES_KEY_SIZE, KES_MESSAGE_MAX + 1, signed_size) == KES_TOO_LONG, "7 comes before 6");
+    expect(kes_verify(13, 0, NULL, 0, 0, NULL, 0, NULL, 0) == KES_HEIGHT, "1 comes first");
+}
+
+static void hashing(const char *abc)
+{
+    char hex[2 * KES_DIGEST_SIZE + 1];
     size_t i;
-    for (i = 0; i < KES_DIGEST_SIZE; i++) {
-        char two[3];
-        snprintf(two, sizeof two, "%02x", bytes[i]);
-        if (strncmp(two, hex + 2 * i, 2) != 0)
-            return 0;
-    }
-    return 1;
-}
-
-/* Hashes into a guarded buffer; whatever the answer, nothing but digest_len bytes may change. */
-static uint32_t hash(struct guarded *out, const uint8_t *message, size_t len, size_t digest_len)
-{
-    uint32_t number;
-    memset(out, FILL, sizeof *out);
-    number = kes_hash(message, len, out->bytes, digest_len);
-    expect(filled(out->before, GUARD) && filled(out->after, GUARD), "guard bytes stay");
-    expect(filled(out->bytes + digest_len, sizeof out->bytes - digest_len), "nothing is written past the digest");
-    return number;
-}
-
-static void good(const char *abc, const char *none)
-{
-    struct guarded out;
-    expect(hash(&out, (const uint8_t *)"abc", 3, KES_DIGEST_SIZE) == KES_DONE && is_hex(out.bytes, abc), "the digest of abc");
-    expect(hash(&out, NULL, 0, KES_DIGEST_SIZE) == KES_DONE && is_hex(out.bytes, none), "the digest of an empty slice, null");
-}
-
-static void refused(void)
-{
-    static uint8_t message[KES_MESSAGE_MAX + 1];
-    struct guarded out;
-    expect(hash(&out, message, KES_MESSAGE_MAX, KES_DIGEST_SIZE) == KES_DONE, "4,096 bytes are hashed");
-    expect(hash(&out, message, KES_MESSAGE_MAX + 1, KES_DIGEST_SIZE) == KES_TOO_LONG && filled(out.bytes, KES_DIGEST_SIZE), "4,097 bytes are refused with 7");
-    expect(hash(&out, message, 3, 31) == KES_LENGTH && filled(out.bytes, 31), "a short output is refused with 4");
-    expect(hash(&out, message, 3, 33) == KES_LENGTH && filled(out.bytes, 33), "a long output is refused with 4");
-    expect(hash(&out, message, KES_MESSAGE_MAX + 1, 31) == KES_TOO_LONG, "7 comes before 4");
-    expect(kes_hash(message, 3, NULL, 0) == KES_LENGTH, "an empty output, null, is refused with 4");
+    clear(&other);
+    expect(kes_hash((const uint8_t *)"abc", 3, in(&other), KES_DIGEST_SIZE) == KES_DONE, "abc is hashed");
+    for (i = 0; i < KES_DIGEST_SIZE; i++)
+        snprintf(hex + 2 * i, 3, "%02x", in(&other)[i]);
+    expect(strcmp(hex, abc) == 0 && guarded(&other, KES_DIGEST_SIZE), "the digest of abc, and nothing else");
+    expect(kes_hash(NULL, 0, in(&other), KES_DIGEST_SIZE) == KES_DONE, "an empty message is hashed");
+    expect(kes_hash(in(&message), KES_MESSAGE_MAX + 1, NULL, 0) == KES_TOO_LONG, "4,097 bytes are refused with 7, before 4");
+    expect(kes_hash(in(&message), 3, in(&other), 31) == KES_LENGTH, "a short digest is refused with 4");
 }
 
 int main(int argc, char **argv)
 {
-    if (argc != 3)
+    if (argc != 2)
         return 2;
-    good(argv[1], argv[2]);
-    refused();
+    clear(&message);
+    sizes();
+    making();
+    careless();
+    moving();
+    verifying();
+    hashing(argv[1]);
     if (failures == 0)
         puts("kes_test: every call answers as it must");
     return failures != 0;

@@ -1,13 +1,73 @@
 // The C edge: each answer as its number, on plain numbers and byte slices. include/kes.h declares these functions.
-ghost use Rattle.edge.specs.Hash.{EdgeHashes};
-use blake2b::Answer;
+ghost use Rattle.edge.specs.Edge.{EdgeHashes, EdgeMakes, EdgeMoves, EdgeReads, EdgeSigns, EdgeVerifies};
+use key::Answer;
+use key::Grown;
+use key::Verdict;
+
+#[no_mangle]
+pub extern "C" fn kes_make(h1: u64, h2: u64, seed: &mut [u8], table: &mut [u8]) -> u64
+    ensures { λ r. ⌜ EdgeMakes h1 h2 (now (seed .entry)) (now (table .entry)) r (now (seed .exit)) (now (table .exit)) ⌝ }
+{
+    match key::make(h1, h2, seed, table) {
+        Grown::Done(count) => count * 0x1_0000_0000,
+        Grown::Refused(why) => refusal::number(why) as u64,
+    }
+}
+
+#[no_mangle]
+pub extern "C" fn kes_read_key(table: &[u8], key: &mut [u8]) -> u32
+    ensures { λ r. ⌜ EdgeReads (now (table .entry)) (now (key .entry)) r (now (table .exit)) (now (key .exit)) ⌝ }
+{
+    match key::read_key(table, key) {
+        Answer::Done => 0,
+        Answer::Refused(why) => refusal::number(why),
+    }
+}
+
+#[no_mangle]
+pub extern "C" fn kes_move(table: &mut [u8], step: u64) -> u64
+    ensures { λ r. ⌜ EdgeMoves (now (table .entry)) step r (now (table .exit)) ⌝ }
+{
+    match key::move_to(table, step) {
+        Grown::Done(count) => count * 0x1_0000_0000,
+        Grown::Refused(why) => refusal::number(why) as u64,
+    }
+}
+
+#[no_mangle]
+pub extern "C" fn kes_sign(table: &[u8], message: &[u8], signature: &mut [u8]) -> u32
+    ensures { λ r. ⌜ EdgeSigns (now (table .entry)) (now (message .entry)) (now (signature .entry)) r (now (table .exit)) (now (message .exit)) (now (signature .exit)) ⌝ }
+{
+    match key::sign(table, message, signature) {
+        Answer::Done => 0,
+        Answer::Refused(why) => refusal::number(why),
+    }
+}
+
+#[no_mangle]
+pub extern "C" fn kes_verify(
+    h1: u64,
+    h2: u64,
+    key: &[u8],
+    step: u64,
+    message: &[u8],
+    signature: &[u8],
+) -> u32
+    ensures { λ r. ⌜ EdgeVerifies h1 h2 (now (key .entry)) step (now (message .entry)) (now (signature .entry)) r (now (key .exit)) (now (message .exit)) (now (signature .exit)) ⌝ }
+{
+    match key::verify(h1, h2, key, step, message, signature) {
+        Verdict::Accepted => 0,
+        Verdict::Rejected => 100,
+        Verdict::Refused(why) => refusal::number(why),
+    }
+}
 
 #[no_mangle]
 pub extern "C" fn kes_hash(message: &[u8], digest: &mut [u8]) -> u32
     ensures { λ r. ⌜ EdgeHashes (now (message .entry)) (now (digest .entry)) r (now (message .exit)) (now (digest .exit)) ⌝ }
 {
     match blake2b::hash(message, digest) {
-        Answer::Done => 0,
-        Answer::Refused(why) => refusal::number(why),
+        blake2b::Answer::Done => 0,
+        blake2b::Answer::Refused(why) => refusal::number(why),
     }
 }

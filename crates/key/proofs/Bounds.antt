@@ -1,0 +1,64 @@
+-- The count's bounds, over a list of heights and then at two trees as document 01 states them.
+use mathlib.Core.Path.{_≡_, refl}
+use mathlib.Core.Bool.{Bool, true, false}
+use mathlib.Core.List.{List, [], _∷_}
+use Prim.Native.Nat.{ℕ, suc, _+_, _-_, _^_, _≤_}
+use native.Mathlib.Numerals.{add-one}
+use native.Mathlib.Nat.{pow-suc}
+use native.Mathlib.Omega.{arith}
+use lib.Dec.{eqb}
+use lib.Pow.{pow-pos}
+use borrow.Author.Tests.{eq-eqb}
+use Rattle.tree.proofs.Laws.{count-bound, count-new-bound}
+use Rattle.key.specs.Part.{total, outer, inner, countNewPart, countPart}
+
+-- a new part: every tree of it is new
+unfoldable pub newBound : ℕ → List ℕ → ℕ
+newBound h [] = 2 ^ suc h - 1
+newBound h (g ∷ hs) = (2 ^ suc h - 1) + newBound g hs
+
+-- a move: the first tree whose step changes is moved, and what lies below it is new
+unfoldable pub moveBound : ℕ → List ℕ → ℕ
+moveBound h [] = 2 ^ h - 1
+moveBound h (g ∷ hs) = (2 ^ h - 1) + newBound g hs
+
+new-bound : (hs : List ℕ) (h t : ℕ) → countNewPart h hs t ≤ newBound h hs
+unfolding countNewPart newBound
+new-bound [] h t = count-new-bound h t
+new-bound (g ∷ hs) h t =
+    let x = count-new-bound h (outer (total g hs) t) in
+    let y = new-bound hs g (inner (total g hs) t) in
+    omega arith
+
+move-within-new : (hs : List ℕ) (h : ℕ) → moveBound h hs ≤ newBound h hs
+unfolding moveBound newBound
+move-within-new [] h = rw pow-suc (omega arith)
+move-within-new (g ∷ hs) h = rw pow-suc (omega arith)
+
+pub part-bound : (hs : List ℕ) (h a b : ℕ) → countPart h hs a b ≤ moveBound h hs
+unfolding countPart moveBound
+part-bound [] h a b = count-bound h a b
+part-bound (g ∷ hs) h a b = go (part-bound hs) (eqb (outer (total g hs) a) (outer (total g hs) b)) refl
+  where
+    go : ((h a b : ℕ) → countPart h hs a b ≤ moveBound h hs) → (x : Bool) → eqb (outer (total g hs) a) (outer (total g hs) b) ≡ x
+        → countPart h (g ∷ hs) a b ≤ moveBound h (g ∷ hs)
+    go ih true p = rw p (let x = ih g (inner (total g hs) a) (inner (total g hs) b) in let y = move-within-new hs g in omega arith)
+    go ih false p =
+        rw p
+        (let x = count-bound h (outer (total g hs) a) (outer (total g hs) b) in
+        let y = new-bound hs g (inner (total g hs) b) in
+        omega arith)
+
+-- two trees: a move that keeps t1 is one of the child alone
+pub count-within : (h1 h2 a b : ℕ) → outer h2 a ≡ outer h2 b → countPart h1 (h2 ∷ []) a b ≤ 2 ^ h2 - 1
+unfolding countPart
+count-within h1 h2 a b e = rw (eq-eqb (outer h2 a) (outer h2 b) e) (count-bound h2 (inner h2 a) (inner h2 b))
+
+-- and one that changes it grows at most this; a move that keeps it too
+pub count-across : (h1 h2 a b : ℕ) → countPart h1 (h2 ∷ []) a b ≤ 2 ^ h1 + 2 ^ (h2 + 1) - 2
+unfolding moveBound newBound
+count-across h1 h2 a b =
+    let x = part-bound (h2 ∷ []) h1 a b in
+    let p = pow-pos h1 in
+    let q = pow-pos (suc h2) in
+    rw add-one (omega arith)

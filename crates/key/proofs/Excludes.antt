@@ -1,0 +1,112 @@
+-- What the contracts rule out, at one input each: stand-ins for a call, and another order of its refusals. Whoever weakens a definition breaks one of these.
+use mathlib.Core.Path.{_≡_, sym, ap, _∙_}
+use mathlib.Core.List.{List, [], _++_}
+use Prim.Native.Nat.{ℕ}
+use native.Mathlib.Omega.{arith}
+use lib.ListN.{getD, replicate}
+use Rattle.refusal.specs.declared.Refusal.the-variants.{Height, SeedOrKey, Table, Length, PastEnd, TooLong}
+use Rattle.tree.specs.Tree.{zeros}
+use Rattle.tree.specs.Move.{entered, movedTree, countMove, countNewAt}
+use Rattle.key.specs.Part.{seam, movedPart, countNewPart, countPart, sumsIn, partSignature}
+use Rattle.key.specs.Table.{header, fourIn, headerBytes, headerIn, wellFormed, headerOf}
+use Rattle.key.specs.Calls.{
+  moveWork,
+  Makes,
+  makeOutcome,
+  Reads,
+  keyUnder,
+  keyOutcome,
+  Moves,
+  moveUnder,
+  moveOutcome,
+  Signs,
+  signUnder,
+  signOutcome,
+  Verifies,
+  verdictOf,
+  verifyOutcome,
+}
+use Rattle.key.specs.declared.Grown.{Grown}
+use Rattle.key.specs.declared.Grown.the-variants as grown
+use Rattle.key.specs.declared.Answer.{Answer}
+use Rattle.key.specs.declared.Answer.the-variants as answer
+use Rattle.key.specs.declared.Verdict.{Verdict}
+use Rattle.key.specs.declared.Verdict.the-variants as verdict
+
+-- a table of heights 1 and 0 at step t, every byte of its body x
+unfoldable pub plain : ℕ → ℕ → List ℕ
+plain t x = headerBytes (header 1 0 t) ++ replicate 384 x
+
+-- A move of it from step 0 to step 1 is done, with A14's count.
+pub not-refusing : (a : Grown) (d : List ℕ) → Moves (plain 0 7) 1 a d → a ≡ grown.Done 2
+unfolding plain headerBytes moveOutcome moveUnder headerOf wellFormed headerIn fourIn moveWork countPart countNewPart countNewAt countMove
+not-refusing a d m = m .answers
+
+-- It writes the step, so the table is not left;
+pub not-idle : (a : Grown) → Moves (plain 0 7) 1 a (plain 0 7) → ⊥
+unfolding plain headerBytes moveOutcome moveUnder headerOf wellFormed headerIn fourIn moveWork
+not-idle a m = let e : _≡_ {A = ℕ} 0 1 = ap (λ (d : List ℕ). getD d 4 0) (m .leaves) in omega arith
+
+-- and it makes the parting level's seed zero, so more than the step is written.
+pub not-only-step : (a : Grown) → Moves (plain 0 7) 1 a (plain 1 7) → ⊥
+unfolding plain headerBytes moveOutcome moveUnder headerOf wellFormed headerIn fourIn moveWork movedPart seam movedTree entered zeros
+not-only-step a m = let e : _≡_ {A = ℕ} 7 0 = ap (λ (d : List ℕ). getD d 8 0) (m .leaves) in omega arith
+
+-- Two tables with other stored signatures sign one message otherwise: no signature is fixed.
+pub not-fixed : (x : List ℕ) {a b : Answer} {d₁ d₂ m₁ m₂ : List ℕ} → Signs (plain 0 7) [] (replicate 256 0) a d₁ m₁ x
+    → Signs (plain 0 8) [] (replicate 256 0) b d₂ m₂ x → ⊥
+unfolding plain headerBytes signOutcome signUnder headerOf wellFormed headerIn fourIn partSignature sumsIn
+not-fixed x p q =
+    let e : _≡_ {A = ℕ} 7 8 = ap (λ (d : List ℕ). getD d 0 0) (sym (p .leaves) ∙ q .leaves) in
+    omega arith
+
+-- make: 1 before 2, 2 before 4
+module _ {a : Grown} {s d : List ℕ} where
+  pub make-1-2 : Makes 13 0 [] [] a s d → a ≡ grown.Refused Height
+  unfolding makeOutcome
+  make-1-2 m = m .answers
+
+  pub make-2-4 : Makes 0 0 [] [] a s d → a ≡ grown.Refused SeedOrKey
+  unfolding makeOutcome
+  make-2-4 m = m .answers
+
+-- read key: 3 before 4; move: 3 before 6 (6 and 5 never meet)
+pub key-3-4 : {a : Answer} {d out : List ℕ} → Reads [] [] a d out → a ≡ answer.Refused Table
+unfolding keyOutcome keyUnder headerOf wellFormed
+key-3-4 r = r .answers
+
+pub move-3-6 : {a : Grown} {d : List ℕ} → Moves [] 16777216 a d → a ≡ grown.Refused Table
+unfolding moveOutcome moveUnder headerOf wellFormed
+move-3-6 m = m .answers
+
+-- sign: 3 before 7, 7 before 4
+module _ {a : Answer} {d m out : List ℕ} where
+  pub sign-3-7 : Signs [] (replicate 4097 0) [] a d m out → a ≡ answer.Refused Table
+  unfolding signOutcome signUnder headerOf wellFormed
+  sign-3-7 r = r .answers
+
+  pub sign-7-4 : Signs (plain 0 7) (replicate 4097 0) [] a d m out → a ≡ answer.Refused TooLong
+  unfolding plain headerBytes signOutcome signUnder headerOf wellFormed headerIn fourIn
+  sign-7-4 r = r .answers
+
+-- verify: 1 before 2, 2 before 4, 4 before 7, 7 before 6; and a step at T is refused, whatever its low bits say
+module _ {a : Verdict} {k m x : List ℕ} where
+  pub verify-1-2 : Verifies 0 13 [] 0 [] [] a k m x → a ≡ verdict.Refused Height
+  unfolding verifyOutcome verdictOf
+  verify-1-2 v = v .answers
+
+  pub verify-2-4 : Verifies 0 0 [] 0 [] [] a k m x → a ≡ verdict.Refused SeedOrKey
+  unfolding verifyOutcome verdictOf
+  verify-2-4 v = v .answers
+
+  pub verify-4-7 : Verifies 0 0 (replicate 32 0) 0 (replicate 4097 0) [] a k m x → a ≡ verdict.Refused Length
+  unfolding verifyOutcome verdictOf
+  verify-4-7 v = v .answers
+
+  pub verify-7-6 : Verifies 0 0 (replicate 32 0) 1 (replicate 4097 0) (replicate 224 0) a k m x → a ≡ verdict.Refused TooLong
+  unfolding verifyOutcome verdictOf
+  verify-7-6 v = v .answers
+
+  pub verify-6 : Verifies 2 2 (replicate 32 0) 16 [] (replicate 352 0) a k m x → a ≡ verdict.Refused PastEnd
+  unfolding verifyOutcome verdictOf
+  verify-6 v = v .answers

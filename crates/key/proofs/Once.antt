@@ -1,0 +1,132 @@
+-- For each call: no second outcome fits its contract; the outcome is one of those that document 01 lists for the call; and their numbers.
+use mathlib.Core.Path.{_≡_, refl, sym, _∙_}
+use mathlib.Core.List.{List, [], _∷_, map}
+use mathlib.Core.Bool.{Bool, true, false}
+use Prim.Native.Nat.{ℕ}
+use lib.Dec.{ltb, leb, eqb}
+use lib.ListN.{length}
+use Rattle.fields.specs.Tests.{pick}
+use Rattle.blake2b.specs.Calls.{limit}
+use Rattle.refusal.specs.declared.Refusal.the-variants.{Table}
+use Rattle.key.specs.Part.{partVerdict}
+use Rattle.key.specs.Table.{steps, tableSize, signatureSize, headerIn, wellFormed, headerOf}
+use Rattle.key.specs.Answers.{grownTold, answerNumber, verdictNumber}
+use Rattle.key.specs.Calls.{
+  tooHigh,
+  Makes,
+  MakeOutcome,
+  makeOutcome,
+  Reads,
+  KeyOutcome,
+  keyUnder,
+  keyOutcome,
+  Moves,
+  MoveOutcome,
+  moveUnder,
+  moveOutcome,
+  Signs,
+  SignOutcome,
+  signUnder,
+  signOutcome,
+  Verifies,
+  verdictOf,
+  verifyOutcome,
+}
+use Rattle.key.specs.Listed.{Among, here, there, makeListed, keyListed, moveListed, signListed, verifyListed}
+use Rattle.key.specs.declared.header.Found.the-variants.{Good, Refused}
+use Rattle.key.specs.declared.Grown.{Grown}
+use Rattle.key.specs.declared.Answer.{Answer}
+use Rattle.key.specs.declared.Verdict.{Verdict}
+
+pub make-once : (h1 h2 : ℕ) (s d : List ℕ) {a b : Grown} {s₁ s₂ d₁ d₂ : List ℕ} → Makes h1 h2 s d a s₁ d₁ → Makes h1 h2 s d b s₂ d₂
+    → (a ≡ b) × (s₁ ≡ s₂) × (d₁ ≡ d₂)
+make-once h1 h2 s d x y = (x .answers ∙ sym (y .answers), x .zeroes ∙ sym (y .zeroes), x .leaves ∙ sym (y .leaves))
+
+pub key-once : (d out : List ℕ) {a b : Answer} {d₁ d₂ o₁ o₂ : List ℕ} → Reads d out a d₁ o₁ → Reads d out b d₂ o₂ → (a ≡ b) × (d₁ ≡ d₂) × (o₁ ≡ o₂)
+key-once d out x y = (x .answers ∙ sym (y .answers), x .keeps ∙ sym (y .keeps), x .leaves ∙ sym (y .leaves))
+
+pub move-once : (d : List ℕ) (b : ℕ) {a₁ a₂ : Grown} {d₁ d₂ : List ℕ} → Moves d b a₁ d₁ → Moves d b a₂ d₂ → (a₁ ≡ a₂) × (d₁ ≡ d₂)
+move-once d b x y = (x .answers ∙ sym (y .answers), x .leaves ∙ sym (y .leaves))
+
+pub sign-once : (d m out : List ℕ) {a b : Answer} {d₁ d₂ m₁ m₂ o₁ o₂ : List ℕ} → Signs d m out a d₁ m₁ o₁ → Signs d m out b d₂ m₂ o₂
+    → (a ≡ b) × (d₁ ≡ d₂) × (m₁ ≡ m₂) × (o₁ ≡ o₂)
+sign-once d m out x y = (
+  x .answers ∙ sym (y .answers),
+  x .keeps-table ∙ sym (y .keeps-table),
+  x .keeps-message ∙ sym (y .keeps-message),
+  x .leaves ∙ sym (y .leaves),
+)
+
+pub verify-once : (h1 h2 : ℕ) (k : List ℕ) (t : ℕ) (m x : List ℕ) {a b : Verdict} {k₁ k₂ m₁ m₂ x₁ x₂ : List ℕ} → Verifies h1 h2 k t m x a k₁ m₁ x₁
+    → Verifies h1 h2 k t m x b k₂ m₂ x₂ → (a ≡ b) × (k₁ ≡ k₂) × (m₁ ≡ m₂) × (x₁ ≡ x₂)
+verify-once h1 h2 k t m x p q = (
+  p .answers ∙ sym (q .answers),
+  p .keeps-key ∙ sym (q .keeps-key),
+  p .keeps-message ∙ sym (q .keeps-message),
+  p .keeps-signature ∙ sym (q .keeps-signature),
+)
+
+-- one of the listed
+either : {A : Type 0} {x y : A} {xs : List A} (b : Bool) → Among x xs → Among y xs → Among (pick b x y) xs
+either true p q = p
+either false p q = q
+
+pub make-listed : (h1 h2 : ℕ) (s d : List ℕ) → Among (makeOutcome h1 h2 s d) (makeListed h1 h2 s d)
+unfolding makeOutcome
+make-listed h1 h2 s d =
+    either (tooHigh h1 h2) (here refl)
+    (either (eqb (length s) 32) (either (eqb (length d) (tableSize h1 h2)) (there (there (there (here refl)))) (there (there (here refl)))) (there (here refl)))
+
+pub key-listed : (d out : List ℕ) → Among (keyOutcome d out) (keyListed d out)
+unfolding keyOutcome keyUnder headerOf
+key-listed d out = go (wellFormed d)
+  where
+    go : (b : Bool) → Among (keyUnder (pick b (Good (headerIn d)) (Refused Table)) d out) (keyListed d out)
+    go true = either (eqb (length out) 32) (there (there (here refl))) (there (here refl))
+    go false = here refl
+
+pub move-listed : (d : List ℕ) (b : ℕ) → Among (moveOutcome d b) (moveListed d b)
+unfolding moveOutcome moveUnder headerOf
+move-listed d b = go (wellFormed d)
+  where
+    go : (f : Bool) → Among (moveUnder (pick f (Good (headerIn d)) (Refused Table)) d b) (moveListed d b)
+    go true =
+        let x = headerIn d in
+        either (leb (steps (x .h1) (x .h2)) b) (there (here refl)) (either (leb b (x .step)) (there (there (here refl))) (there (there (there (here refl)))))
+    go false = here refl
+
+pub sign-listed : (d m out : List ℕ) → Among (signOutcome d m out) (signListed d m out)
+unfolding signOutcome signUnder headerOf
+sign-listed d m out = go (wellFormed d)
+  where
+    go : (b : Bool) → Among (signUnder (pick b (Good (headerIn d)) (Refused Table)) d m out) (signListed d m out)
+    go true =
+        let x = headerIn d in
+        either (ltb limit (length m)) (there (here refl))
+        (either (eqb (length out) (signatureSize (x .h1) (x .h2))) (there (there (there (here refl)))) (there (there (here refl))))
+    go false = here refl
+
+pub verify-listed : (h1 h2 : ℕ) (k : List ℕ) (t : ℕ) (m x : List ℕ) → Among (verifyOutcome h1 h2 k t m x .answer) verifyListed
+unfolding verifyOutcome verdictOf
+verify-listed h1 h2 k t m x =
+    let late = either (partVerdict k h1 (h2 ∷ []) t m x) (there (there (there (there (there (there (here refl))))))) (there (there (there (there (there (here refl)))))) in
+    let long = either (leb (steps h1 h2) t) (there (there (there (there (here refl))))) late in
+    let size = either (ltb limit (length m)) (there (there (there (here refl)))) long in
+    let key = either (eqb (length x) (signatureSize h1 h2)) size (there (there (here refl))) in
+    either (tooHigh h1 h2) (here refl) (either (eqb (length k) 32) key (there (here refl)))
+
+-- in document 01's numbers
+pub make-numbers : (h1 h2 : ℕ) (s d : List ℕ) → map (λ (o : MakeOutcome). grownTold (o .answer) .number) (makeListed h1 h2 s d) ≡ 1 ∷ 2 ∷ 4 ∷ 0 ∷ []
+make-numbers h1 h2 s d = refl
+
+pub key-numbers : (d out : List ℕ) → map (λ (o : KeyOutcome). answerNumber (o .answer)) (keyListed d out) ≡ 3 ∷ 4 ∷ 0 ∷ []
+key-numbers d out = refl
+
+pub move-numbers : (d : List ℕ) (b : ℕ) → map (λ (o : MoveOutcome). grownTold (o .answer) .number) (moveListed d b) ≡ 3 ∷ 6 ∷ 5 ∷ 0 ∷ []
+move-numbers d b = refl
+
+pub sign-numbers : (d m out : List ℕ) → map (λ (o : SignOutcome). answerNumber (o .answer)) (signListed d m out) ≡ 3 ∷ 7 ∷ 4 ∷ 0 ∷ []
+sign-numbers d m out = refl
+
+pub verify-numbers : map verdictNumber verifyListed ≡ 1 ∷ 2 ∷ 4 ∷ 7 ∷ 6 ∷ 100 ∷ 0 ∷ []
+verify-numbers = refl

@@ -1,0 +1,169 @@
+-- The five calls, each by one definition from its inputs to its whole outcome: the answer and the end value of every slice lent, on all inputs. The order of
+-- refusals is that of document 01, "Numbers a caller can get". Each contract says that answer and end values are the outcome's.
+use mathlib.Core.Path.{_≡_}
+use mathlib.Core.List.{List, [], _∷_, _++_}
+use mathlib.Core.Bool.{Bool, _||_}
+use Prim.Native.Nat.{ℕ}
+use lib.Dec.{ltb, leb, eqb}
+use lib.ListN.{length}
+use Rattle.fields.specs.Tests.{pick}
+use Rattle.blake2b.specs.Calls.{limit}
+use Rattle.refusal.specs.declared.Refusal.{Refusal}
+use Rattle.refusal.specs.declared.Refusal.the-variants.{Height, SeedOrKey, Length, NotLater, PastEnd, TooLong}
+use Rattle.tree.specs.Tree.{zeros, rootIn}
+use Rattle.key.specs.Part.{partAt, movedPart, countNewPart, countPart, partSignature, partVerdict}
+use Rattle.key.specs.Table.{maxHeight, steps, tableSize, signatureSize, header, atStep, headerBytes, bodyIn, headerOf}
+use Rattle.key.specs.declared.header.Header.{Header}
+use Rattle.key.specs.declared.header.Found.{Found}
+use Rattle.key.specs.declared.header.Found.the-variants as found
+use Rattle.key.specs.declared.Grown.{Grown}
+use Rattle.key.specs.declared.Grown.the-variants as grown
+use Rattle.key.specs.declared.Answer.{Answer}
+use Rattle.key.specs.declared.Answer.the-variants as answer
+use Rattle.key.specs.declared.Verdict.{Verdict}
+use Rattle.key.specs.declared.Verdict.the-variants as verdict
+
+abbrev pub tooHigh : ℕ → ℕ → Bool
+tooHigh h1 h2 = ltb maxHeight h1 || ltb maxHeight h2
+
+-- The work of make and of move after their checks, over the body alone: the count, and the body left.
+pub record Work : Type 0 where
+  pub count : ℕ
+  pub body : List ℕ
+
+unfoldable pub makeWork : ℕ → ℕ → List ℕ → Work
+makeWork h1 h2 s = record { count = countNewPart h1 (h2 ∷ []) 0; body = partAt s h1 (h2 ∷ []) 0 }
+
+unfoldable pub moveWork : Header → List ℕ → ℕ → Work
+moveWork x d b = record { count = countPart (x .h1) (x .h2 ∷ []) (x .step) b; body = movedPart d (x .h1) (x .h2 ∷ []) (x .step) b }
+
+-- make: 1, 2, 4
+pub record MakeOutcome : Type 0 where
+  pub answer : Grown
+  pub seed : List ℕ
+  pub table : List ℕ
+
+abbrev pub notMade : Refusal → List ℕ → List ℕ → MakeOutcome
+notMade why s d = record { answer = grown.Refused why; seed = s; table = d }
+
+abbrev pub made : ℕ → ℕ → Work → MakeOutcome
+made h1 h2 w = record { answer = grown.Done (w .count); seed = zeros; table = headerBytes (header h1 h2 0) ++ w .body }
+
+unfoldable pub makeOutcome : ℕ → ℕ → List ℕ → List ℕ → MakeOutcome
+makeOutcome h1 h2 s d =
+    pick (tooHigh h1 h2) (notMade Height s d)
+    (pick (eqb (length s) 32)
+    (pick (eqb (length d) (tableSize h1 h2)) (made h1 h2 (makeWork h1 h2 s)) (notMade Length s d))
+    (notMade SeedOrKey s d))
+
+pub record Makes (h1 h2 : ℕ) (s d : List ℕ) (a : Grown) (s′ d′ : List ℕ) : Type 0 where
+  pub answers : a ≡ makeOutcome h1 h2 s d .answer
+  pub zeroes : s′ ≡ makeOutcome h1 h2 s d .seed
+  pub leaves : d′ ≡ makeOutcome h1 h2 s d .table
+
+-- read key: 3, 4
+pub record KeyOutcome : Type 0 where
+  pub answer : Answer
+  pub table : List ℕ
+  pub out : List ℕ
+
+abbrev pub notRead : Refusal → List ℕ → List ℕ → KeyOutcome
+notRead why d out = record { answer = answer.Refused why; table = d; out = out }
+
+abbrev pub keyRead : Header → List ℕ → KeyOutcome
+keyRead x d = record { answer = answer.Done; table = d; out = rootIn (bodyIn d) (x .h1) }
+
+unfoldable pub keyUnder : Found → List ℕ → List ℕ → KeyOutcome
+keyUnder (found.Refused why) d out = notRead why d out
+keyUnder (found.Good x) d out =
+    pick (eqb (length out) 32) (keyRead x d) (notRead Length d out)
+
+unfoldable pub keyOutcome : List ℕ → List ℕ → KeyOutcome
+keyOutcome d out = keyUnder (headerOf d) d out
+
+pub record Reads (d out : List ℕ) (a : Answer) (d′ out′ : List ℕ) : Type 0 where
+  pub answers : a ≡ keyOutcome d out .answer
+  pub keeps : d′ ≡ keyOutcome d out .table
+  pub leaves : out′ ≡ keyOutcome d out .out
+
+-- move: 3, 6, 5
+pub record MoveOutcome : Type 0 where
+  pub answer : Grown
+  pub table : List ℕ
+
+abbrev pub notMoved : Refusal → List ℕ → MoveOutcome
+notMoved why d = record { answer = grown.Refused why; table = d }
+
+abbrev pub moved : Header → ℕ → Work → MoveOutcome
+moved x b w = record { answer = grown.Done (w .count); table = headerBytes (atStep x b) ++ w .body }
+
+unfoldable pub moveUnder : Found → List ℕ → ℕ → MoveOutcome
+moveUnder (found.Refused why) d b = notMoved why d
+moveUnder (found.Good x) d b =
+    pick (leb (steps (x .h1) (x .h2)) b) (notMoved PastEnd d)
+    (pick (leb b (x .step)) (notMoved NotLater d) (moved x b (moveWork x (bodyIn d) b)))
+
+unfoldable pub moveOutcome : List ℕ → ℕ → MoveOutcome
+moveOutcome d b = moveUnder (headerOf d) d b
+
+pub record Moves (d : List ℕ) (b : ℕ) (a : Grown) (d′ : List ℕ) : Type 0 where
+  pub answers : a ≡ moveOutcome d b .answer
+  pub leaves : d′ ≡ moveOutcome d b .table
+
+-- sign: 3, 7, 4
+pub record SignOutcome : Type 0 where
+  pub answer : Answer
+  pub table : List ℕ
+  pub message : List ℕ
+  pub out : List ℕ
+
+abbrev pub notSigned : Refusal → List ℕ → List ℕ → List ℕ → SignOutcome
+notSigned why d m out = record { answer = answer.Refused why; table = d; message = m; out = out }
+
+abbrev pub signed : Header → List ℕ → List ℕ → SignOutcome
+signed x d m = record { answer = answer.Done; table = d; message = m; out = partSignature (bodyIn d) (x .h1) (x .h2 ∷ []) (x .step) m }
+
+unfoldable pub signUnder : Found → List ℕ → List ℕ → List ℕ → SignOutcome
+signUnder (found.Refused why) d m out = notSigned why d m out
+signUnder (found.Good x) d m out =
+    pick (ltb limit (length m)) (notSigned TooLong d m out)
+    (pick (eqb (length out) (signatureSize (x .h1) (x .h2))) (signed x d m) (notSigned Length d m out))
+
+unfoldable pub signOutcome : List ℕ → List ℕ → List ℕ → SignOutcome
+signOutcome d m out = signUnder (headerOf d) d m out
+
+pub record Signs (d m out : List ℕ) (a : Answer) (d′ m′ out′ : List ℕ) : Type 0 where
+  pub answers : a ≡ signOutcome d m out .answer
+  pub keeps-table : d′ ≡ signOutcome d m out .table
+  pub keeps-message : m′ ≡ signOutcome d m out .message
+  pub leaves : out′ ≡ signOutcome d m out .out
+
+-- verify: 1, 2, 4, 7, 6, 100
+pub record VerifyOutcome : Type 0 where
+  pub answer : Verdict
+  pub key : List ℕ
+  pub message : List ℕ
+  pub signature : List ℕ
+
+abbrev pub judged : Verdict → List ℕ → List ℕ → List ℕ → VerifyOutcome
+judged a k m x = record { answer = a; key = k; message = m; signature = x }
+
+unfoldable pub verdictOf : ℕ → ℕ → List ℕ → ℕ → List ℕ → List ℕ → Verdict
+verdictOf h1 h2 k t m x =
+    pick (tooHigh h1 h2) (verdict.Refused Height)
+    (pick (eqb (length k) 32)
+    (pick (eqb (length x) (signatureSize h1 h2))
+    (pick (ltb limit (length m)) (verdict.Refused TooLong)
+    (pick (leb (steps h1 h2) t) (verdict.Refused PastEnd)
+    (pick (partVerdict k h1 (h2 ∷ []) t m x) verdict.Accepted verdict.Rejected)))
+    (verdict.Refused Length))
+    (verdict.Refused SeedOrKey))
+
+unfoldable pub verifyOutcome : ℕ → ℕ → List ℕ → ℕ → List ℕ → List ℕ → VerifyOutcome
+verifyOutcome h1 h2 k t m x = judged (verdictOf h1 h2 k t m x) k m x
+
+pub record Verifies (h1 h2 : ℕ) (k : List ℕ) (t : ℕ) (m x : List ℕ) (a : Verdict) (k′ m′ x′ : List ℕ) : Type 0 where
+  pub answers : a ≡ verifyOutcome h1 h2 k t m x .answer
+  pub keeps-key : k′ ≡ verifyOutcome h1 h2 k t m x .key
+  pub keeps-message : m′ ≡ verifyOutcome h1 h2 k t m x .message
+  pub keeps-signature : x′ ≡ verifyOutcome h1 h2 k t m x .signature

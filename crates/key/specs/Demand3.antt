@@ -1,0 +1,51 @@
+-- Demand 3, clause by clause: of a key that is made from one seed and two heights and then asked to move, any number of times and to any steps.
+use mathlib.Core.Path.{_≡_}
+use mathlib.Core.Bool.{true}
+use mathlib.Core.List.{List, [], _∷_}
+use Prim.Native.Nat.{ℕ, _≤_, _<_}
+use lib.ListN.{length}
+use Rattle.fields.specs.Fields.{Bytes}
+use Rattle.blake2b.specs.Calls.{limit}
+use Rattle.ed25519.specs.Ed25519.{publicKey, signature, accepts}
+use Rattle.key.specs.Part.{countPart}
+use Rattle.key.specs.Table.{maxHeight, steps, tableSize, signatureSize}
+use Rattle.key.specs.Calls.{MakeOutcome, makeOutcome, KeyOutcome, keyOutcome, MoveOutcome}
+use Rattle.key.specs.Calls.{moveOutcome, SignOutcome, signOutcome, VerifyOutcome, verifyOutcome}
+use Rattle.key.specs.declared.Grown.the-variants as grown
+use Rattle.key.specs.declared.Answer.the-variants as answer
+use Rattle.key.specs.declared.Verdict.the-variants as verdict
+use Rattle.key.specs.Runs.{Last, movedBy, lastAccepted, straightTo, stepOf}
+use Rattle.key.specs.Knows.{knownTable, handedAt, Knowing}
+
+abbrev pub Bytes32 : List ℕ → Type 0
+Bytes32 x = (length x ≡ 32) × Bytes x
+
+abbrev pub Message : List ℕ → Type 0
+Message m = (length m ≤ limit) × Bytes m
+
+-- "a signature by a secret is accepted under its public key": nowhere assumed, and asked for by the one clause that needs it
+abbrev pub AcceptsOwn : Type 0
+AcceptsOwn = (x m : List ℕ) → Bytes32 x → Message m → accepts (publicKey x) m (signature x m) ≡ true
+
+-- the table `made` was made from s, `now` is what the asked moves have left of it, and `last` the last accepted of them
+pub record Keeps (h1 h2 : ℕ) (s made now : List ℕ) (last : Last) : Type 0 where
+  -- byte for byte the one moved once, straight to the last accepted step
+  pub straight : now ≡ straightTo made last
+  -- its verification key, as it is read, is the first one
+  pub first-key : (out : List ℕ) → length out ≡ 32 → keyOutcome now out .out ≡ keyOutcome made out .out
+  pub reads : (out : List ℕ) → length out ≡ 32 → keyOutcome now out .answer ≡ answer.Done
+  -- every byte follows from what document 01 lists: public values, the present leaf's secret, and seeds from which no step up to this one grows
+  pub follows : now ≡ knownTable h1 h2 (stepOf last) (handedAt s h1 (h2 ∷ []) (stepOf last))
+  pub knowing : Knowing s h1 (h2 ∷ []) (stepOf last)
+  -- every later step before the end is reached by a move, which grows what the rules count
+  pub reaches : (b : ℕ) → stepOf last < b → b < steps h1 h2 → moveOutcome now b .answer ≡ grown.Done (countPart h1 (h2 ∷ []) (stepOf last) b)
+  -- every message is signed, and what is signed is accepted at that step under the first verification key, if Ed25519 accepts its own signatures
+  pub signs : (m out : List ℕ) → length m ≤ limit → length out ≡ signatureSize h1 h2 → signOutcome now m out .answer ≡ answer.Done
+  pub accepted : AcceptsOwn → (m out key : List ℕ) → Message m → length out ≡ signatureSize h1 h2 → length key ≡ 32
+      → verifyOutcome h1 h2 (keyOutcome made key .out) (stepOf last) m (signOutcome now m out .out) .answer ≡ verdict.Accepted
+
+-- DEMAND 3: for heights up to 12, a seed of 32 bytes, a table lent of the right length, and every list of asked moves
+abbrev pub Demand3 : Type 0
+Demand3 =
+    (h1 h2 : ℕ) (s d asked : List ℕ) → h1 ≤ maxHeight → h2 ≤ maxHeight → Bytes32 s → length d ≡ tableSize h1 h2
+    → Keeps h1 h2 s (makeOutcome h1 h2 s d .table) (movedBy (makeOutcome h1 h2 s d .table) asked) (lastAccepted (makeOutcome h1 h2 s d .table) asked)

@@ -1,0 +1,50 @@
+-- A list of calls of any kind, each on the bytes that the one before it left; and a list of asked moves.
+use mathlib.Core.List.{List, [], _∷_}
+use Prim.Native.Nat.{ℕ}
+use Rattle.key.specs.Calls.{MoveOutcome, moveOutcome}
+use Rattle.key.specs.declared.Grown.{Grown}
+use Rattle.key.specs.declared.Grown.the-variants as grown
+
+-- the bytes in the end, where `leaves d o` is what the call o leaves of d
+unfoldable pub after : {Call : Type 0} → (List ℕ → Call → List ℕ) → List ℕ → List Call → List ℕ
+after leaves d [] = d
+after leaves d (o ∷ os) = after leaves (leaves d o) os
+
+-- a state in the end, where `next x d o` is what the call o on d makes of the state x
+unfoldable pub ends : {Call State : Type 0} → (List ℕ → Call → List ℕ) → (State → List ℕ → Call → State)
+    → State → List ℕ → List Call → State
+ends leaves next x d [] = x
+ends leaves next x d (o ∷ os) = ends leaves next (next x d o) (leaves d o) os
+
+-- ASKED MOVES, to any steps. The last accepted step, if one was accepted:
+pub data Last : Type 0 where
+  none : Last
+  at : ℕ → Last
+
+-- a move to b is accepted if its own answer is `Done`
+unfoldable pub accepted : Grown → ℕ → Last → Last
+accepted (grown.Done n) b x = at b
+accepted (grown.Refused why) b x = x
+
+abbrev pub moveLeaves : List ℕ → ℕ → List ℕ
+moveLeaves d b = moveOutcome d b .table
+
+abbrev pub moveTells : Last → List ℕ → ℕ → Last
+moveTells x d b = accepted (moveOutcome d b .answer) b x
+
+-- what a table becomes, and the last accepted step
+abbrev pub movedBy : List ℕ → List ℕ → List ℕ
+movedBy d asked = after moveLeaves d asked
+
+abbrev pub lastAccepted : List ℕ → List ℕ → Last
+lastAccepted d asked = ends moveLeaves moveTells none d asked
+
+-- moved once, straight there, or not moved if none was accepted
+abbrev pub straightTo : List ℕ → Last → List ℕ
+straightTo d none = d
+straightTo d (at b) = moveOutcome d b .table
+
+-- the step at which a table is that was made at step 0
+abbrev pub stepOf : Last → ℕ
+stepOf none = 0
+stepOf (at b) = b

@@ -1,0 +1,131 @@
+// The five calls. Each checks in document 01's order, and writes nothing before all its checks have passed.
+ghost use Rattle.key.specs.Calls.{Makes, Reads, Moves, Signs, Verifies};
+use crate::Answer;
+use crate::Grown;
+use crate::Verdict;
+use crate::body::accepted;
+use crate::body::make_body;
+use crate::body::move_body;
+use crate::body::sign_body;
+use crate::header::Found;
+use crate::header::Header;
+use crate::header::put_header;
+use crate::header::read_header;
+use crate::layout::HEADER_SIZE;
+use crate::layout::signature_size;
+use crate::layout::steps;
+use crate::layout::table_size;
+use crate::layout::too_high;
+use blake2b::LIMIT;
+use refusal::Refusal;
+
+// Makes a key of these heights from seed, in table. The lent seed becomes zeros.
+pub fn make(h1: u64, h2: u64, seed: &mut [u8], table: &mut [u8]) -> Grown
+    ensures { λ r. ⌜ Makes h1 h2 (now (seed .entry)) (now (table .entry)) r (now (seed .exit)) (now (table .exit)) ⌝ }
+{
+    let h1 = h1 as usize;
+    let h2 = h2 as usize;
+    if too_high(h1, h2) {
+        return Grown::Refused(Refusal::Height);
+    }
+    if seed.len() != 32 {
+        return Grown::Refused(Refusal::SeedOrKey);
+    }
+    if table.len() != table_size(h1, h2) {
+        return Grown::Refused(Refusal::Length);
+    }
+    let from = fields::get32(seed, 0);
+    let count = make_body(from, h1, h2, &mut table[HEADER_SIZE..]);
+    put_header(table, Header { h1, h2, step: 0 });
+    let zeros = [0u8; 32];
+    fields::put32(seed, 0, zeros);
+    Grown::Done(count as u64)
+}
+
+// Writes the verification key of the key in table.
+pub fn read_key(table: &[u8], out: &mut [u8]) -> Answer
+    ensures { λ r. ⌜ Reads (now (table .entry)) (now (out .entry)) r (now (table .exit)) (now (out .exit)) ⌝ }
+{
+    let found = read_header(table);
+    let Found::Good(header) = found else {
+        return found.answer();
+    };
+    if out.len() != 32 {
+        return Answer::Refused(Refusal::Length);
+    }
+    let key = tree::root(&table[HEADER_SIZE..], header.h1);
+    fields::put32(out, 0, key);
+    Answer::Done
+}
+
+// Moves the key in table to a later step.
+pub fn move_to(table: &mut [u8], step: u64) -> Grown
+    ensures { λ r. ⌜ Moves (now (table .entry)) step r (now (table .exit)) ⌝ }
+{
+    let found = read_header(table);
+    let Found::Good(header) = found else {
+        return found.grown();
+    };
+    let step = step as usize;
+    let end = steps(header.h1, header.h2);
+    if end <= step {
+        return Grown::Refused(Refusal::PastEnd);
+    }
+    let old = header.step;
+    if step <= old {
+        return Grown::Refused(Refusal::NotLater);
+    }
+    let count = move_body(&mut table[HEADER_SIZE..], header, step);
+    let h1 = header.h1;
+    let h2 = header.h2;
+    put_header(table, Header { h1, h2, step });
+    Grown::Done(count as u64)
+}
+
+// Writes the signature over message by the key in table, at its step.
+pub fn sign(table: &[u8], message: &[u8], out: &mut [u8]) -> Answer
+    ensures { λ r. ⌜ Signs (now (table .entry)) (now (message .entry)) (now (out .entry)) r (now (table .exit)) (now (message .exit)) (now (out .exit)) ⌝ }
+{
+    let found = read_header(table);
+    let Found::Good(header) = found else {
+        return found.answer();
+    };
+    if LIMIT < message.len() {
+        return Answer::Refused(Refusal::TooLong);
+    }
+    if out.len() != signature_size(header.h1, header.h2) {
+        return Answer::Refused(Refusal::Length);
+    }
+    sign_body(&table[HEADER_SIZE..], header, message, out);
+    Answer::Done
+}
+
+// Judges the signature over message at this step, under a verification key and its heights.
+pub fn verify(h1: u64, h2: u64, key: &[u8], step: u64, message: &[u8], signature: &[u8]) -> Verdict
+    ensures { λ r. ⌜ Verifies h1 h2 (now (key .entry)) step (now (message .entry)) (now (signature .entry)) r (now (key .exit)) (now (message .exit)) (now (signature .exit)) ⌝ }
+{
+    let h1 = h1 as usize;
+    let h2 = h2 as usize;
+    let step = step as usize;
+    if too_high(h1, h2) {
+        return Verdict::Refused(Refusal::Height);
+    }
+    if key.len() != 32 {
+        return Verdict::Refused(Refusal::SeedOrKey);
+    }
+    if signature.len() != signature_size(h1, h2) {
+        return Verdict::Refused(Refusal::Length);
+    }
+    if LIMIT < message.len() {
+        return Verdict::Refused(Refusal::TooLong);
+    }
+    let total = steps(h1, h2);
+    if total <= step {
+        return Verdict::Refused(Refusal::PastEnd);
+    }
+    let root = fields::get32(key, 0);
+    if accepted(root, h1, h2, step, message, signature) {
+        return Verdict::Accepted;
+    }
+    Verdict::Rejected
+}

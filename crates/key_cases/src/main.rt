@@ -1,0 +1,258 @@
+// The five calls under the stand-in, from the seed 1, 2, .., 32: a day of single steps at four pairs of heights, with refused moves between; all pairs
+// of jumps; and document 01's edges.
+ghost use mathlib.Core.Path.{_≡_};
+ghost use Prim.Native.Nat.{_≤_};
+ghost use lib.ListN.{length};
+use cases::digest;
+use cases::end_line;
+use cases::show_field;
+use cases::show_number;
+use key::Answer;
+use key::Grown;
+use key::Verdict;
+use libc::STDOUT_FILENO;
+
+const SEED: [u8; 32] = [
+    1,
+    2,
+    3,
+    4,
+    5,
+    6,
+    7,
+    8,
+    9,
+    10,
+    11,
+    12,
+    13,
+    14,
+    15,
+    16,
+    17,
+    18,
+    19,
+    20,
+    21,
+    22,
+    23,
+    24,
+    25,
+    26,
+    27,
+    28,
+    29,
+    30,
+    31,
+    32,
+];
+
+// Room for the longest table. The contract gives its length alone, so that no goal spells the bytes out.
+fn room() -> [u8; 2952]
+    ensures { λ r. ⌜ 2952 ≡ length r ⌝ }
+{
+    [0; 2952]
+}
+
+// A byte more than the longest message.
+fn long_message() -> [u8; 4097]
+    ensures { λ r. ⌜ 4097 ≡ length r ⌝ }
+{
+    [7; 4097]
+}
+
+fn show_grown(answer: Grown) {
+    match answer {
+        Grown::Done(count) => {
+            show_number(0);
+            show_number(count);
+        }
+        Grown::Refused(why) => show_number(refusal::number(why) as u64),
+    }
+}
+
+fn show_answer(answer: Answer) {
+    match answer {
+        Answer::Done => show_number(0),
+        Answer::Refused(why) => show_number(refusal::number(why) as u64),
+    }
+}
+
+fn show_verdict(verdict: Verdict) {
+    match verdict {
+        Verdict::Accepted => show_number(0),
+        Verdict::Rejected => show_number(100),
+        Verdict::Refused(why) => show_number(refusal::number(why) as u64),
+    }
+}
+
+fn make(h1: u64, h2: u64, table: &mut [u8]) -> Grown {
+    let mut lent = SEED;
+    key::make(h1, h2, &mut lent, table)
+}
+
+// The line of a key: its heights, what making answers, the table, the verification key.
+fn made(h1: u64, h2: u64, table: &mut [u8]) {
+    io::write_all(STDOUT_FILENO, b"made");
+    show_number(h1);
+    show_number(h2);
+    show_grown(make(h1, h2, table));
+    show_field(digest(table));
+    let mut key = [0u8; 32];
+    show_answer(key::read_key(table, &mut key));
+    show_field(key);
+    end_line();
+}
+
+// The verdicts at a step, at the next, and over another message.
+fn verdicts(h1: u64, h2: u64, t: u64, table: &[u8], signature: &[u8]) {
+    let mut key = [0u8; 32];
+    key::read_key(table, &mut key);
+    show_verdict(key::verify(h1, h2, &key, t, b"top-up", signature));
+    show_verdict(key::verify(
+        h1,
+        h2,
+        &key,
+        std::num::wrapping_add_u64(t, 1),
+        b"top-up",
+        signature,
+    ));
+    show_verdict(key::verify(h1, h2, &key, t, b"refund", signature));
+}
+
+// The line of a step: a move to it, a second one and one past the end, which are refused, then the table, a signature and its verdicts.
+fn step(h1: u64, h2: u64, t: u64, end: u64, table: &mut [u8], signature: &mut [u8]) {
+    io::write_all(STDOUT_FILENO, b"step");
+    show_number(t);
+    show_grown(key::move_to(table, t));
+    show_grown(key::move_to(table, t));
+    show_grown(key::move_to(table, end));
+    show_field(digest(table));
+    show_answer(key::sign(table, b"top-up", signature));
+    show_field(digest(signature));
+    verdicts(h1, h2, t, table, signature);
+    end_line();
+}
+
+fn day(h1: u64, h2: u64, end: u64, table: &mut [u8], signature: &mut [u8]) {
+    made(h1, h2, table);
+    let mut t: u64 = 0;
+    while t < end {
+        step(h1, h2, t, end, table, signature);
+        t += 1;
+    }
+}
+
+// Many moves as one value: the digests of the tables, each hashed onto those before it, and the sum of the counts, which wraps so that no bound is
+// asked of them.
+struct Folded {
+    chain: [u8; 32],
+    count: u64,
+}
+
+fn count_of(answer: Grown) -> u64 {
+    match answer {
+        Grown::Done(count) => count,
+        Grown::Refused(_) => 0,
+    }
+}
+
+// A key made, moved to step a, and from there to step b.
+fn with_jump(before: Folded, h1: u64, h2: u64, a: u64, b: u64, table: &mut [u8]) -> Folded {
+    make(h1, h2, table);
+    key::move_to(table, a);
+    let count = count_of(key::move_to(table, b));
+    let chain = before.chain;
+    Folded {
+        chain: blake2b::hash_32_32(chain, digest(table)),
+        count: std::num::wrapping_add_u64(before.count, count),
+    }
+}
+
+fn with_jumps_from(before: Folded, h1: u64, h2: u64, a: u64, end: u64, table: &mut [u8]) -> Folded {
+    let mut all = before;
+    let mut b = a;
+    while b < end {
+        let more = with_jump(all, h1, h2, a, b, table);
+        all = more;
+        b += 1;
+    }
+    all
+}
+
+fn all_jumps(h1: u64, h2: u64, end: u64, table: &mut [u8]) -> Folded {
+    let mut all = Folded {
+        chain: [0; 32],
+        count: 0,
+    };
+    let mut a: u64 = 0;
+    while a < end {
+        let more = with_jumps_from(all, h1, h2, a, end, table);
+        all = more;
+        a += 1;
+    }
+    all
+}
+
+// The line of all jumps.
+fn jumps(h1: u64, h2: u64, end: u64, table: &mut [u8]) {
+    let all = all_jumps(h1, h2, end, table);
+    io::write_all(STDOUT_FILENO, b"jumps");
+    let chain = all.chain;
+    show_field(chain);
+    show_number(all.count);
+    end_line();
+}
+
+fn key_of(h1: u64, h2: u64, end: u64, table: &mut [u8], signature: &mut [u8])
+    requires { ⌜ (h1 ≤ 12) × (h2 ≤ 12) × (length (now table) ≡ 2952) × (length (now signature) ≡ 2952) ⌝ }
+    ensures { λ _. ⌜ (length (now (table .exit)) ≡ 2952) × (length (now (signature .exit)) ≡ 2952) ⌝ }
+{
+    let size = (264 + 128 * h1 + 96 * h2) as usize;
+    let signed = (224 + 32 * (h1 + h2)) as usize;
+    day(h1, h2, end, &mut table[0..size], &mut signature[0..signed]);
+    jumps(h1, h2, end, &mut table[0..size]);
+}
+
+// The line of the tallest key: made, moved, and one that is taller.
+fn tallest(table: &mut [u8])
+    requires { ⌜ length (now table) ≡ 2952 ⌝ }
+    ensures { λ _. ⌜ length (now (table .exit)) ≡ 2952 ⌝ }
+{
+    io::write_all(STDOUT_FILENO, b"tallest");
+    show_grown(make(12, 12, table));
+    show_grown(key::move_to(table, 16777215));
+    show_field(digest(table));
+    show_grown(make(13, 0, table));
+    show_grown(make(0, 13, table));
+    end_line();
+}
+
+fn signed(table: &[u8], message: &[u8], signature: &mut [u8]) {
+    show_answer(key::sign(table, message, signature));
+    show_field(digest(signature));
+}
+
+// The line of messages: none, the longest, one byte more, which leaves the signature as it was.
+fn messages(table: &mut [u8], message: &[u8], signature: &mut [u8])
+    requires { ⌜ length (now message) ≡ 4097 ⌝ }
+{
+    io::write_all(STDOUT_FILENO, b"messages");
+    show_grown(make(0, 0, table));
+    signed(table, b"", signature);
+    signed(table, &message[0..4096], signature);
+    signed(table, message, signature);
+    end_line();
+}
+
+fn main() {
+    let mut table = room();
+    let mut signature = room();
+    let message = long_message();
+    key_of(2, 2, 16, &mut table, &mut signature);
+    key_of(1, 0, 2, &mut table, &mut signature);
+    key_of(0, 1, 2, &mut table, &mut signature);
+    key_of(3, 2, 32, &mut table, &mut signature);
+    tallest(&mut table);
+    messages(&mut table[0..264], &message, &mut signature[0..224]);
+}

@@ -1,0 +1,94 @@
+#!/usr/bin/env python3
+"""Writes what the program key_cases must print under the gate, from the model with the stand-in.
+With --check it writes nothing and says whether the file is that."""
+import pathlib
+import sys
+
+import standin
+from kes import H, Scheme, signature_size, steps, table_size
+
+STDOUT = pathlib.Path(__file__).resolve().parents[2] / "crates" / "key_cases" / "stdout"
+HEIGHTS = [(2, 2), (1, 0), (0, 1), (3, 2)]
+SCHEME = Scheme(standin)
+
+
+def grown(answer):
+    """A number, and the count where it is 0."""
+    number, count = answer
+    return f"0 {count}" if number == 0 else f"{number}"
+
+
+def make(h1, h2, table):
+    return SCHEME.make(h1, h2, bytearray(range(1, 33)), table)
+
+
+def read_key(table):
+    key = bytearray(32)
+    return SCHEME.read_key(table, key), bytes(key)
+
+
+def made(h1, h2, table):
+    answer = make(h1, h2, table)
+    number, key = read_key(table)
+    return f"made {h1} {h2} {grown(answer)} {H(table).hex()} {number} {key.hex()}"
+
+
+def step(h1, h2, t, table):
+    key = read_key(table)[1]
+    moves = [grown(SCHEME.move(table, to)) for to in (t, t, steps(h1, h2))]
+    signature = bytearray(signature_size(h1, h2))
+    signed = SCHEME.sign(table, b"top-up", signature)
+    tries = [(t, b"top-up"), (t + 1, b"top-up"), (t, b"refund")]
+    verdicts = [SCHEME.verify(h1, h2, key, at, message, signature) for at, message in tries]
+    return " ".join(["step", str(t), *moves, H(table).hex(), str(signed), H(signature).hex(), *map(str, verdicts)])
+
+
+def jumps(h1, h2):
+    chain, total = bytes(32), 0
+    end = steps(h1, h2)
+    for a in range(end):
+        for b in range(a, end):
+            table = bytearray(table_size(h1, h2))
+            make(h1, h2, table)
+            SCHEME.move(table, a)
+            total += SCHEME.move(table, b)[1]
+            chain = H(chain + H(table))
+    return f"jumps {chain.hex()} {total}"
+
+
+def messages():
+    table, signature, words = bytearray(264), bytearray(224), ["messages"]
+    words.append(grown(make(0, 0, table)))
+    for message in (b"", b"\7" * 4096, b"\7" * 4097):
+        words += [str(SCHEME.sign(table, message, signature)), H(signature).hex()]
+    return " ".join(words)
+
+
+def tallest():
+    table = bytearray(table_size(12, 12))
+    words = ["tallest", grown(make(12, 12, table)), grown(SCHEME.move(table, 2**24 - 1)), H(table).hex()]
+    return " ".join(words + [grown(make(13, 0, table)), grown(make(0, 13, table))])
+
+
+def lines():
+    for h1, h2 in HEIGHTS:
+        table = bytearray(table_size(h1, h2))
+        yield made(h1, h2, table)
+        for t in range(steps(h1, h2)):
+            yield step(h1, h2, t, table)
+        yield jumps(h1, h2)
+    yield tallest()
+    yield messages()
+
+
+def main():
+    text = "".join(line + "\n" for line in lines())
+    if sys.argv[1:] != ["--check"]:
+        STDOUT.write_text(text)
+    elif STDOUT.read_text() != text:
+        sys.exit("crates/key_cases/stdout is not what host/model/key_cases.py writes")
+    else:
+        print(f"key cases: {len(text.splitlines())} lines are those of the model")
+
+
+main()
