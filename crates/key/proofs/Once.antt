@@ -11,27 +11,11 @@ use Rattle.refusal.specs.declared.Refusal.the-variants.{Table}
 use Rattle.key.specs.Part.{partVerdict}
 use Rattle.key.specs.Table.{steps, tableSize, signatureSize, headerIn, wellFormed, headerOf}
 use Rattle.key.specs.Answers.{grownTold, answerNumber, verdictNumber}
-use Rattle.key.specs.Calls.{
-  tooHigh,
-  Makes,
-  MakeOutcome,
-  makeOutcome,
-  Reads,
-  KeyOutcome,
-  keyUnder,
-  keyOutcome,
-  Moves,
-  MoveOutcome,
-  moveUnder,
-  moveOutcome,
-  Signs,
-  SignOutcome,
-  signUnder,
-  signOutcome,
-  Verifies,
-  verdictOf,
-  verifyOutcome,
-}
+use Rattle.key.specs.Calls.{tooHigh, Makes, MakeOutcome, makeOutcome}
+use Rattle.key.specs.Calls.{Reads, KeyOutcome, keyUnder, keyOutcome}
+use Rattle.key.specs.Calls.{Moves, MoveOutcome, moveUnder, moveOutcome}
+use Rattle.key.specs.Calls.{Signs, SignOutcome, signUnder, signOutcome}
+use Rattle.key.specs.Calls.{Verifies, verdictOf, verifyOutcome}
 use Rattle.key.specs.Listed.{Among, here, there, makeListed, keyListed, moveListed, signListed, verifyListed}
 use Rattle.key.specs.declared.header.Found.the-variants.{Good, Refused}
 use Rattle.key.specs.declared.Grown.{Grown}

@@ -17,37 +17,11 @@ use Rattle.tree.specs.Tree.{zeros, rootIn}
 use Rattle.key.specs.Part.{partSignature, partVerdict}
 use Rattle.key.specs.Table.{headerSize, steps, tableSize, signatureSize, header, atStep, headerBytes, bodyIn, headerOf}
 use Rattle.key.specs.Answers.{grownOf, answerOf}
-use Rattle.key.specs.Calls.{
-  tooHigh,
-  makeWork,
-  moveWork,
-  Makes,
-  MakeOutcome,
-  notMade,
-  made,
-  makeOutcome,
-  Reads,
-  KeyOutcome,
-  notRead,
-  keyRead,
-  keyUnder,
-  keyOutcome,
-  Moves,
-  MoveOutcome,
-  notMoved,
-  moved,
-  moveUnder,
-  moveOutcome,
-  Signs,
-  SignOutcome,
-  notSigned,
-  signed,
-  signUnder,
-  signOutcome,
-  Verifies,
-  verdictOf,
-  verifyOutcome,
-}
+use Rattle.key.specs.Calls.{tooHigh, makeWork, Makes, MakeOutcome, notMade, made, makeOutcome}
+use Rattle.key.specs.Calls.{Reads, KeyOutcome, notRead, keyRead, keyUnder, keyOutcome}
+use Rattle.key.specs.Calls.{moveWork, Moves, MoveOutcome, notMoved, moved, moveUnder, moveOutcome}
+use Rattle.key.specs.Calls.{Signs, SignOutcome, notSigned, signed, signUnder, signOutcome}
+use Rattle.key.specs.Calls.{Verifies, verdictOf, verifyOutcome}
 use Rattle.key.specs.declared.header.Header.{Header}
 use Rattle.key.specs.declared.header.Found.{Found}
 use Rattle.key.specs.declared.header.Found.the-variants as found

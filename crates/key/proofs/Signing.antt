@@ -1,12 +1,11 @@
 -- What `sign_body` leaves and `accepted` answers, from what their calls ensure.
-use mathlib.Core.Path.{_≡_, sym, _∙_}
+use mathlib.Core.Path.{_≡_, refl, sym, _∙_}
 use mathlib.Core.List.{List, [], _∷_, _++_, append-assoc, append-nil}
 use mathlib.Core.Bool.{Bool, true, false}
 use Prim.Native.Nat.{ℕ, _+_, _-_, _/_, _%_, _^_}
-use native.Mathlib.Nat.{zero-add}
 use native.Mathlib.Omega.{arith}
 use lib.ListN.{length, take, drop, length-append, length-drop}
-use lib.Seq.{take-at, drop-at}
+use lib.Seq.{length-take-le}
 use Rattle.fields.specs.Fields.{part, put}
 use Rattle.fields.proofs.Laws.{length-part, put-over, tail-whole}
 use Rattle.tree.specs.Tree.{treeSize, rootIn}
@@ -15,29 +14,30 @@ use Rattle.tree.proofs.Reading.{sum-size}
 use Rattle.key.specs.Part.{nextAt, seamSize, partSize, bondIn, partIn, sumsIn, rootsIn, partSignature, sumsVerdict, partVerdict}
 use Rattle.key.specs.Table.{signatureSize}
 
--- the stored sum signature is written, the child's behind it, and then the child's root
-pub product-signed : (d m out : List ℕ) (h1 h2 t : ℕ) {w size next below first second : ℕ} {ys root d₁ d₃ : List ℕ} → length d ≡ partSize h1 (h2 ∷ [])
+-- the child's sum signature is written, the stored one before it, and the child's root behind it
+pub product-signed : (d m out : List ℕ) (h1 h2 t : ℕ) {w size next below first second : ℕ} {ys root d₂ d₃ : List ℕ} → length d ≡ partSize h1 (h2 ∷ [])
     → length out ≡ signatureSize h1 h2 → w ≡ 2 ^ h2 → size ≡ treeSize h1 → next ≡ nextAt h1 → below ≡ seamSize h1 → first ≡ sumSize h1 → second ≡ sumSize h2
-    → d₁ ≡ put out 0 (length (part d size (next - size))) (part d size (next - size))
     → ys ≡ sumSignature (part d below (length d - below)) h2 (t % w) m
+    → (let d₁ = take first out ++ (ys ++ drop (first + second - first) (drop first out)) in
+    d₂ ≡ put d₁ 0 (length (part d size (next - size))) (part d size (next - size)))
     → root ≡ rootIn (part d below (length d - below)) h2
-    → d₃ ≡ put (take first d₁ ++ (ys ++ drop (first + second - first) (drop first d₁))) (first + second) 32 root
+    → d₃ ≡ put d₂ (first + second) 32 root
     → d₃ ≡ partSignature d h1 (h2 ∷ []) t m
 unfolding partSignature sumsIn rootsIn
-product-signed d m out h1 h2 t {w} {size} {next} {below} {first} {second} {ys} {root} {d₁} {d₃} ld lo ew es en eb ef ec e₁ ey er e₃ =
+product-signed d m out h1 h2 t {w} {size} {next} {below} {first} {second} {ys} {root} {d₂} {d₃} ld lo ew es en eb ef ec ey e₂ er e₃ =
     let bond = bondIn d h1 in
+    let rest = drop second (drop first out) in
     let n : next - size ≡ sumSize h1 = omega arith in
     let k : first + second - first ≡ second = omega arith in
     let lb : length bond ≡ first = length-part d (treeSize h1) (sumSize h1) (omega arith) ∙ sym ef in
+    let lf : length (take first out) ≡ first = length-take-le first out (omega arith) in
+    let lr : length rest ≡ 32 = rw (length-drop, length-drop) (omega arith) in
     let child : part d below (length d - below) ≡ partIn d h1 = tail-whole d below ∙ rw eb in
     let ly : length ys ≡ second = rw (ey, child, ec) (sum-size h2 (partIn d h1) (t % w) m (rw length-drop (omega arith))) in
-    let f₁ : d₁ ≡ bond ++ drop first out = e₁ ∙ rw (n, es, lb, zero-add) in
-    let rest = drop second (drop first out) in
-    let lr : length rest ≡ 32 = rw (length-drop, length-drop) (omega arith) in
-    let back : take first d₁ ++ (ys ++ drop (first + second - first) (drop first d₁)) ≡ (bond ++ ys) ++ (rest ++ []) =
-    rw (k, f₁, take-at bond (drop first out) first lb, drop-at bond (drop first out) first lb, append-nil) (sym (append-assoc bond ys rest)) in
     let l : length (bond ++ ys) ≡ first + second = length-append bond ys ∙ rw (lb, ly) in
-    e₃ ∙ rw (back, put-over (bond ++ ys) rest [] root (first + second) 32 l lr, er, ey, child, ew)
+    let f₂ : d₂ ≡ (bond ++ ys) ++ (rest ++ []) =
+    e₂ ∙ rw (n, es, lb, k, put-over [] (take first out) (ys ++ rest) bond 0 first refl lf, append-nil) (sym (append-assoc bond ys rest)) in
+    e₃ ∙ rw (f₂, put-over (bond ++ ys) rest [] root (first + second) 32 l lr, er, ey, child, ew)
 
 -- both sum signatures are checked, the second where the first is accepted
 module _ (key m x : List ℕ) (h1 h2 t : ℕ) {w first second : ℕ} {root : List ℕ} {yes : Bool} (ew : w ≡ 2 ^ h2) (ef : first ≡ sumSize h1) (es : second ≡ sumSize h2)

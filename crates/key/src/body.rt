@@ -39,7 +39,8 @@ fn blank() -> [u8; 480]
 // The leaf of the tree at the front of body signs root, the sum signature is written behind the tree, and the leaf's secret is made zero.
 fn seal(body: &mut [u8], h: usize, t: usize, root: [u8; 32])
     requires { ⌜ (h ≤ maxHeight) × (t < 2 ^ h) × (nextAt h ≤ length (now body)) ⌝ }
-    ensures { λ _. ⌜ now (body .exit) ≡ withoutSecret (topIn (now (body .entry)) h) h ++ (sumSignature (topIn (now (body .entry)) h) h t root ++ drop (nextAt h) (now (body .entry))) ⌝ }
+    ensures { λ _. ⌜ now (body .exit) ≡ withoutSecret (topIn (now (body .entry)) h) h
+        ++ (sumSignature (topIn (now (body .entry)) h) h t root ++ drop (nextAt h) (now (body .entry))) ⌝ }
 {
     let size = sum_size(h);
     let mut signature = blank();
@@ -79,7 +80,8 @@ pub(crate) fn make_body(seed: [u8; 32], h1: usize, h2: usize, body: &mut [u8]) -
 
 // Moves the body of a table with this header to a later step, and answers the count. Where the parent's step stays, nothing of the parent is touched.
 pub(crate) fn move_body(body: &mut [u8], header: Header, step: usize) -> usize
-    requires { ⌜ (header .h1 ≤ maxHeight) × (header .h2 ≤ maxHeight) × (header .step < step) × (step < steps (header .h1) (header .h2)) × (length (now body) ≡ partSize (header .h1) (header .h2 ∷ [])) ⌝ }
+    requires { ⌜ (header .h1 ≤ maxHeight) × (header .h2 ≤ maxHeight) × (header .step < step) × (step < steps (header .h1) (header .h2))
+        × (length (now body) ≡ partSize (header .h1) (header .h2 ∷ [])) ⌝ }
     ensures { λ r. ⌜ r ≡ moveWork header (now (body .entry)) step .count ⌝ }
     ensures { λ _. ⌜ now (body .exit) ≡ moveWork header (now (body .entry)) step .body ⌝ }
 {
@@ -105,9 +107,10 @@ pub(crate) fn move_body(body: &mut [u8], header: Header, step: usize) -> usize
     count
 }
 
-// Writes the product signature over message, by the body of a table with this header.
+// Writes the product signature over message, by the body of a table with this header. The child's leaf signs before anything is written.
 pub(crate) fn sign_body(body: &[u8], header: Header, message: &[u8], out: &mut [u8])
-    requires { ⌜ (header .h1 ≤ maxHeight) × (header .h2 ≤ maxHeight) × (length (now body) ≡ partSize (header .h1) (header .h2 ∷ [])) × (length (now out) ≡ signatureSize (header .h1) (header .h2)) ⌝ }
+    requires { ⌜ (header .h1 ≤ maxHeight) × (header .h2 ≤ maxHeight) × (length (now body) ≡ partSize (header .h1) (header .h2 ∷ []))
+        × (length (now out) ≡ signatureSize (header .h1) (header .h2)) ⌝ }
     ensures { λ _. ⌜ now (out .exit) ≡ partSignature (now (body .entry)) (header .h1) (header .h2 ∷ []) (header .step) (now (message .entry)) ⌝ }
     ensures { λ _. ⌜ (now (body .exit) ≡ now (body .entry)) × (now (message .exit) ≡ now (message .entry)) ⌝ }
 {
@@ -120,8 +123,8 @@ pub(crate) fn sign_body(body: &[u8], header: Header, message: &[u8], out: &mut [
     let below = seam_size(h1);
     let first = sum_size(h1);
     let sums = first + sum_size(h2);
-    fields::write(out, 0, &body[size..next]);
     tree::sum_sign(&body[below..], h2, t2, message, &mut out[first..sums]);
+    fields::write(out, 0, &body[size..next]);
     fields::put32(out, sums, tree::root(&body[below..], h2));
 }
 

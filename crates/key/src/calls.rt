@@ -84,7 +84,8 @@ pub fn move_to(table: &mut [u8], step: u64) -> Grown
 
 // Writes the signature over message by the key in table, at its step.
 pub fn sign(table: &[u8], message: &[u8], out: &mut [u8]) -> Answer
-    ensures { λ r. ⌜ Signs (now (table .entry)) (now (message .entry)) (now (out .entry)) r (now (table .exit)) (now (message .exit)) (now (out .exit)) ⌝ }
+    ensures { λ r. ⌜ Signs (now (table .entry)) (now (message .entry)) (now (out .entry)) r
+        (now (table .exit)) (now (message .exit)) (now (out .exit)) ⌝ }
 {
     let found = read_header(table);
     let Found::Good(header) = found else {
@@ -102,7 +103,8 @@ pub fn sign(table: &[u8], message: &[u8], out: &mut [u8]) -> Answer
 
 // Judges the signature over message at this step, under a verification key and its heights.
 pub fn verify(h1: u64, h2: u64, key: &[u8], step: u64, message: &[u8], signature: &[u8]) -> Verdict
-    ensures { λ r. ⌜ Verifies h1 h2 (now (key .entry)) step (now (message .entry)) (now (signature .entry)) r (now (key .exit)) (now (message .exit)) (now (signature .exit)) ⌝ }
+    ensures { λ r. ⌜ Verifies h1 h2 (now (key .entry)) step (now (message .entry)) (now (signature .entry)) r
+        (now (key .exit)) (now (message .exit)) (now (signature .exit)) ⌝ }
 {
     let h1 = h1 as usize;
     let h2 = h2 as usize;

@@ -9,14 +9,10 @@ use Rattle.key.proofs.body.accepted.Statement.{statement}
 use Rattle.key.proofs.body.accepted.Tie as tie
 
 div-t1 : tie.Need-div-t1
-div-t1 c =
-    let c₃ = c .before .before .before in
-    wide-pos (c₃ .args .h2) (c .leaves .result) (c .leaves .ensures .0)
+div-t1 c = wide-pos (c .before .before .before .args .h2) (c .leaves .result) (c .leaves .ensures .0)
 
 rem-t2 : tie.Need-rem-t2
-rem-t2 c =
-    let c₃ = c .before .before .before in
-    wide-pos (c₃ .args .h2) (c .leaves .result) (c .leaves .ensures .0)
+rem-t2 c = wide-pos (c .before .before .before .args .h2) (c .leaves .result) (c .leaves .ensures .0)
 
 sum-verify-requires : tie.Need-sum-verify-requires
 sum-verify-requires c κs =

@@ -72,14 +72,12 @@ returns c =
 
 sub-jumped : tie.Need-sub-jumped
 sub-jumped c =
-    let c₃ = c .before .before .before in
-    let l = later c₃ in
+    let l = later (c .before .before .before) in
     omega arith
 
 sub-jumped-2 : tie.Need-sub-jumped-2
 sub-jumped-2 c =
-    let c₃ = c .before .before .before in
-    let l = later c₃ in
+    let l = later (c .before .before .before) in
     omega arith
 
 slice-aggregate-move-tree : tie.Need-slice-aggregate-move-tree

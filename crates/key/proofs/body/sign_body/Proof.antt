@@ -8,22 +8,19 @@ use Rattle.key.proofs.body.sign_body.Statement.{statement}
 use Rattle.key.proofs.body.sign_body.Tie as tie
 
 rem-t2 : tie.Need-rem-t2
-rem-t2 c =
-    let c₄ = c .before .before .before .before in
-    wide-pos (c₄ .args .header .h2) (c .leaves .result) (c .leaves .ensures .0)
+rem-t2 c = wide-pos (c .before .before .before .before .args .header .h2) (c .leaves .result) (c .leaves .ensures .0)
 
 sum-sign-requires : tie.Need-sum-sign-requires
 sum-sign-requires c κs =
-    let c₄ = c .before .before .before .before in
+    let c₂ = c .before .before in
+    let c₃ = c₂ .before in
+    let c₄ = c₃ .before in
     let c₇ = c₄ .before .before .before in
-    let c₈ = c₇ .before in
-    let c₉ = c₈ .before in
-    let c₁₂ = c₉ .before .before .before in
-    let c₁₆ = c₁₂ .before .before .before .before in
-    let a = c₁₆ .args in
-    let l = length-tail (a .body .now) (c₉ .seam-size .result) in
-    let k = length-part (c₄ .write .last .0) (c₈ .sum-size .result) (c₇ .sum-size2 .result) (omega arith) in
-    (c₁₆ .pre .1, inner-lt (a .header .h2) (c₁₂ .leaves .result) (c₁₂ .leaves .ensures .0) (a .header .step), omega arith, omega arith)
+    let c₁₁ = c₇ .before .before .before .before in
+    let a = c₁₁ .args in
+    let l = length-tail (a .body .now) (c₄ .seam-size .result) in
+    let k = length-part (a .out .now) (c₃ .sum-size .result) (c₂ .sum-size2 .result) (omega arith) in
+    (c₁₁ .pre .1, inner-lt (a .header .h2) (c₇ .leaves .result) (c₇ .leaves .ensures .0) (a .header .step), omega arith, omega arith)
 
 returns : tie.Need-returns
 returns c =
@@ -39,17 +36,17 @@ returns c =
     let c₂₁ = c₂₀ .before in
     let c₂₅ = c₂₁ .before .before .before .before in
     let a = c₂₅ .args in
+    let x = a .header in
     let whole =
-    product-signed (a .body .now) (a .message .now) (a .out .now) (a .header .h1) (a .header .h2) (a .header .step) (c₂₅ .pre .2) (c₂₅ .pre .3)
-    (c₂₁ .leaves .ensures .0) (c₂₀ .tree-size .ensures) (c₁₉ .next-at .ensures)
-    (c₁₈ .seam-size .ensures) (c₁₇ .sum-size .ensures) (c₁₆ .sum-size2 .ensures) (c₁₃ .write .ensures) (c₈ .sum-sign .ensures .0)
-    (c₃ .root .ensures .0) (c₂ .put32 .ensures) in
+    product-signed (a .body .now) (a .message .now) (a .out .now) (x .h1) (x .h2) (x .step) (c₂₅ .pre .2) (c₂₅ .pre .3) (c₂₁ .leaves .ensures .0)
+    (c₂₀ .tree-size .ensures) (c₁₉ .next-at .ensures) (c₁₈ .seam-size .ensures) (c₁₇ .sum-size .ensures) (c₁₆ .sum-size2 .ensures)
+    (c₁₃ .sum-sign .ensures .0) (c₈ .write .ensures) (c₃ .root .ensures .0) (c₂ .put32 .ensures) in
     (whole, (refl, refl))
 
 pub sign-body-spec : {M : Type 1} → statement M
 sign-body-spec =
     tie.close
     (tie.spec (λ c κs. search needs) rem-t2 (λ c κs. search needs) (λ c κs. search needs) (λ c κs. search needs) (λ c κs. search needs)
-    (λ c κs. search needs) (λ c. search needs) (λ c. search needs) (λ c. search needs) (λ c. search needs) (λ c κs. search needs) (λ c. search needs)
-    (λ c. search needs) (λ c. search needs) (λ c. search needs) (λ c. search needs) (λ c. search needs) sum-sign-requires (λ c. search needs)
+    (λ c κs. search needs) (λ c. search needs) (λ c. search needs) (λ c. search needs) (λ c. search needs) (λ c. search needs) (λ c. search needs)
+    (λ c. search needs) sum-sign-requires (λ c. search needs) (λ c. search needs) (λ c. search needs) (λ c κs. search needs) (λ c. search needs)
     (λ c. search needs) (λ c. search needs) (λ c κs. search needs) (λ c κs. search needs) (λ c. search needs) returns)

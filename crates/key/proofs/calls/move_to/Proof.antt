@@ -21,8 +21,7 @@ returns c =
 
 steps-requires : tie.Need-steps-requires
 steps-requires c κs =
-    let c₁ = c .before in
-    let w = formed c₁ in
+    let w = formed (c .before) in
     (w .low1, w .low2)
 
 returns-2 : tie.Need-returns-2
@@ -46,14 +45,12 @@ returns-3 c =
 
 sub-move-body : tie.Need-sub-move-body
 sub-move-body c =
-    let c₄ = c .before .before .before .before in
-    let w = formed c₄ in
+    let w = formed (c .before .before .before .before) in
     omega arith
 
 part-move-body-start : tie.Need-part-move-body-start
 part-move-body-start c =
-    let c₄ = c .before .before .before .before in
-    let w = formed c₄ in
+    let w = formed (c .before .before .before .before) in
     omega arith
 
 move-body-requires : tie.Need-move-body-requires

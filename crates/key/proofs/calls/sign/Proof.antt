@@ -29,8 +29,7 @@ returns-2 c =
 
 signature-size-requires : tie.Need-signature-size-requires
 signature-size-requires c κs =
-    let c₂ = c .before .before in
-    let w = formed c₂ in
+    let w = formed (c .before .before) in
     (w .low1, w .low2)
 
 returns-3 : tie.Need-returns-3
@@ -46,14 +45,12 @@ returns-3 c =
 
 sub-sign-body : tie.Need-sub-sign-body
 sub-sign-body c =
-    let c₄ = c .before .before .before .before in
-    let w = formed c₄ in
+    let w = formed (c .before .before .before .before) in
     omega arith
 
 part-sign-body-start : tie.Need-part-sign-body-start
 part-sign-body-start c =
-    let c₄ = c .before .before .before .before in
-    let w = formed c₄ in
+    let w = formed (c .before .before .before .before) in
     omega arith
 
 sign-body-requires : tie.Need-sign-body-requires

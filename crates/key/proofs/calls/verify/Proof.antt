@@ -105,14 +105,10 @@ accepted-requires c κs =
     (l .0, l .1, omega arith, c₄ .if3 .left ∙ c₅ .signature-size .ensures)
 
 returns-6 : tie.Need-returns-6
-returns-6 c =
-    let c₁ = c .before in
-    judged c₁ (rw (c .if6 .taken))
+returns-6 c = judged (c .before) (rw (c .if6 .taken))
 
 returns-7 : tie.Need-returns-7
-returns-7 c =
-    let c₁ = c .before in
-    judged c₁ (rw (c .if6 .left))
+returns-7 c = judged (c .before) (rw (c .if6 .left))
 
 pub verify-spec : {M : Type 1} → statement M
 verify-spec =

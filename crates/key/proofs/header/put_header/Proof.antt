@@ -5,9 +5,7 @@ use Rattle.key.proofs.header.put_header.Tie as tie
 
 returns : tie.Need-returns
 unfolding headerBytes
-returns c =
-    let c₂ = c .before .before in
-    c₂ .write .ensures
+returns c = c .before .before .write .ensures
 
 pub put-header-spec : {M : Type 1} → statement M
 put-header-spec =

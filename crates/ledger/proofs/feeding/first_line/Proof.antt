@@ -1,0 +1,38 @@
+use mathlib.Core.Path.{refl}
+use borrow.Author.Needs.{needs}
+use Rattle.lines.specs.Lines.{whole, long}
+use Rattle.text.specs.Fields.{fields}
+use Rattle.ledger.specs.FirstLine.{headIn}
+use Rattle.ledger.specs.Output.{headOf}
+use Rattle.ledger.proofs.Ranges.{head-fits}
+use Rattle.ledger.proofs.Taking.{writes-like, writes-right, was-wrong, was-right}
+use Rattle.ledger.proofs.feeding.first_line.Statement.{statement}
+use Rattle.ledger.proofs.feeding.first_line.Tie as tie
+
+returns : tie.Need-returns
+unfolding headOf
+returns c =
+    let a = c .before .before .before .before .before .before .before .before .before .args in
+    writes-like (a .header) long (whole (a .line .now)) refl (was-wrong (headIn (fields (a .line .now))) (c .before .before .before .before .before .before .read-header .ensures) (c .before .before .before .before .enum-told2 .given .1))
+    (c .before .before .wrong-line .ensures)
+
+returns-2 : tie.Need-returns-2
+unfolding headOf
+returns-2 c =
+    let a = c .before .before .before .before .before .before .before .args in
+    let e = was-right (headIn (fields (a .line .now))) (c .before .before .before .before .read-header .ensures) (c .before .before .enum-told .given .1) in
+    writes-right (a .header) (whole (a .line .now)) e (head-fits (fields (a .line .now)) e) (c .before .start .ensures) (c .between .ensures)
+
+pub first-line-spec : {M : Type 1} → statement M
+first-line-spec =
+    tie.close
+    (tie.spec
+    (λ c κs. search needs)
+    (λ c. search needs)
+    (λ c. search needs)
+    (λ c κs. search needs)
+    (λ c. search needs)
+    returns
+    (λ c κs. search needs)
+    (λ c κs. search needs)
+    returns-2)

@@ -1,0 +1,7 @@
+pub mod Splitting
+pub mod FirstLine
+pub mod Records
+pub mod Judging
+pub mod Printing
+pub mod Output
+pub mod Feeding

@@ -1,0 +1,40 @@
+-- The whole output of a journal. Document 01, "The top-up journal": "A wrong or missing line 1 prints `1`, tab, `H`; that is then the whole output".
+use mathlib.Core.List.{List, [], _∷_}
+use Prim.Native.Nat.{ℕ}
+use Rattle.text.specs.Fields.{fields}
+use Rattle.lines.specs.Lines.{Line, whole, long, unended, linesOf}
+use Rattle.ledger.specs.FirstLine.{Head, right, wrong, headIn}
+use Rattle.ledger.specs.Judging.{start, judgedFrom}
+use Rattle.ledger.specs.Printing.{printed, wrongLine}
+use Rattle.ledger.specs.declared.Judged.{Judged}
+
+-- what an input is worth: a wrong line 1, or its later lines, judged
+pub data Report : Type 0 where
+  wrongHeader : Report
+  body : List Judged → Report
+
+-- what line 1 says; over-long or unended it is wrong
+unfoldable pub headOf : Line → Head
+headOf (whole l) = headIn (fields l)
+headOf long = wrong
+headOf unended = wrong
+
+-- below a right line 1 the other lines are judged
+abbrev pub under : Head → List Line → Report
+under wrong ls = wrongHeader
+under (right h) ls = body (judgedFrom h start ls)
+
+unfoldable pub reported : List Line → Report
+reported [] = wrongHeader
+reported (l ∷ ls) = under (headOf l) ls
+
+abbrev pub print : Report → List ℕ
+print wrongHeader = wrongLine
+print (body js) = printed start js
+
+-- THE JUDGED LINES OF AN INPUT, and THE OUTPUT
+unfoldable pub journalReport : List ℕ → Report
+journalReport input = reported (linesOf input)
+
+unfoldable pub journalOutput : List ℕ → List ℕ
+journalOutput input = print (journalReport input)

@@ -1,0 +1,5 @@
+pub mod Cuts
+pub mod Reading
+pub mod Nibbles
+pub mod Writing
+pub mod Back

@@ -1,0 +1,4 @@
+pub mod Fields
+pub mod Numerals
+pub mod Hex
+pub mod Digits
