@@ -37,7 +37,7 @@ enum kes_numbers {
     KES_TABLE = 3,        /* not a well-formed table */
     KES_LENGTH = 4,       /* output or signature not its exact length */
     KES_NOT_LATER = 5,    /* new step not later than the table's */
-    KES_PAST_END = 6,     /* step at or past the last, KES_STEPS */
+    KES_PAST_END = 6,     /* step at or past kes_steps */
     KES_TOO_LONG = 7,     /* message, or bytes fed to the hash, above KES_MESSAGE_MAX */
     KES_NOT_ACCEPTED = 100 /* verify: well formed, not accepted */
 };
