@@ -5,7 +5,7 @@ help:
 	@echo 'make demo    build everything for the desk and show it at work'
 	@echo 'make test    every check there is: host tests, then the gate (rt ci)'
 	@echo 'make desk    build/: the library and programs with real Ed25519 (ED25519=sodium or openssl)'
-	@echo 'make bench   race the hash against libsodium and the RFC'\''s own C code'
+	@echo 'make bench   race the hash against libsodium and C code that follows the RFC'\''s'
 	@echo 'make clean   remove build/ and target/'
 
 desk:

@@ -1,4 +1,4 @@
-/* Races the proved BLAKE2b against libsodium's and against RFC 7693's own C code.
+/* Races the proved BLAKE2b against libsodium's and against C code that follows RFC 7693's.
  *   race count   under callgrind: writes one profile for each row of the table
  *   race         prints the table; the instruction counts of its rows come on standard input */
 #include <stdint.h>

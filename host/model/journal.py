@@ -1,4 +1,4 @@
-"""The top-up journal, judged a second time from the text of document 01 alone."""
+"""The top-up journal, judged a second time from the text of document 01, sharing no code."""
 import functools
 import re
 

@@ -1,4 +1,4 @@
-"""The evolving key, written a second time from the text of document 01 alone: the independent side of every comparison.
+"""The evolving key, written a second time from the text of document 01, sharing no code: the other side of every comparison.
 
 Inside, a tree, a signature and a table are bytes. The calls take bytearrays and write to them as 01 says, so that what stands in
 them afterwards is part of the answer. Each rule is a method of its own: a test that plants an error overrides one.

@@ -57,6 +57,8 @@ def damaged(draw, lines):
     """The lines of a journal after one damage, mostly of a later line."""
     at = draw.randrange(len(lines)) if draw.random() < 0.2 else len(lines) - 1 - draw.randrange(len(lines)) // 2
     line = lines[at]
+    if draw.random() < 0.05:
+        return lines[:at] + [b"".join(lines[at : at + 2])] + lines[at + 2 :]
     byte = draw.randrange(len(line)) if line else 0
     changed = draw.choice([
         [line[:byte] + bytes([draw.randrange(256)]) + line[byte + 1 :]],

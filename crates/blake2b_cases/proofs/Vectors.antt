@@ -1,4 +1,4 @@
--- RFC 7693's definitions at published values: its own printed example, and messages on both sides of a block's edge.
+-- RFC 7693's definitions at the example of its Appendix A, and at messages on both sides of a block's edge. All values are those of hashlib and b2sum.
 use mathlib.Core.Path.{_≡_, refl}
 use mathlib.Core.List.{List, [], _∷_}
 use mathlib.Core.Bool.{true}
