@@ -83,7 +83,7 @@ def model():
 def program(adapter):
     """ed25519_cases, linked with the adapter."""
     made = ROOT / "build" / "obj" / f"ed25519_cases_{adapter}"
-    subprocess.run([ROOT / "desk" / "link", "ed25519_cases", adapter, made], check=True)
+    subprocess.run([ROOT / "desk" / "link", ROOT / "build" / "obj" / "ed25519_cases.o", adapter, made], check=True)
     return made
 
 
