@@ -159,8 +159,14 @@ class Scheme:
 
     def sum_verdict(self, root, h, t, message, signature):
         """Rule 6: the path fits, and Ed25519 says yes."""
-        vk, signed, *witnesses = cut(signature, 32, 64, *[32] * h)
-        return self.climb(H(vk), witnesses, t) == root and self.ed.verify(vk, message, signed)
+        return self.path_fits(root, h, t, signature) and self.leaf_accepts(message, signature)
+
+    def path_fits(self, root, h, t, signature):
+        vk, _, *witnesses = cut(signature, 32, 64, *[32] * h)
+        return self.climb(H(vk), witnesses, t) == root
+
+    def leaf_accepts(self, message, signature):
+        return self.ed.verify(signature[:32], message, signature[32:96])
 
     def count_new(self, h):
         return 2**h
@@ -275,7 +281,9 @@ class Scheme:
         return DONE if accepted else NOT_ACCEPTED
 
     def product_verdict(self, h1, h2, key, step, message, signature):
-        """Rule 8: the parent's over R2 at t1 under the verification key, the child's over the message at t2 under R2."""
+        """Rule 8: the parent's over R2 at t1 under the verification key, the child's over the message at t2 under R2.
+        Paths come first: a bad one should cost no Ed25519 check."""
         t1, t2 = divmod(step, 2**h2)
         parents, childs, r2 = cut(signature, sum_size(h1), sum_size(h2), 32)
-        return self.sum_verdict(key, h1, t1, r2, parents) and self.sum_verdict(r2, h2, t2, message, childs)
+        fits = self.path_fits(key, h1, t1, parents) and self.path_fits(r2, h2, t2, childs)
+        return fits and self.leaf_accepts(r2, parents) and self.leaf_accepts(message, childs)

@@ -1,7 +1,7 @@
 -- What `sign_body` leaves and `accepted` answers, from what their calls ensure.
 use mathlib.Core.Path.{_≡_, refl, sym, _∙_}
 use mathlib.Core.List.{List, [], _∷_, _++_, append-assoc, append-nil}
-use mathlib.Core.Bool.{Bool, true, false}
+use mathlib.Core.Bool.{Bool, true, false, _&&_}
 use Prim.Native.Nat.{ℕ, _+_, _-_, _/_, _%_, _^_}
 use native.Mathlib.Omega.{arith}
 use lib.ListN.{length, take, drop, length-append, length-drop}
@@ -9,7 +9,7 @@ use lib.Seq.{length-take-le}
 use Rattle.fields.specs.Fields.{part, put}
 use Rattle.fields.proofs.Laws.{length-part, put-over, tail-whole}
 use Rattle.tree.specs.Tree.{treeSize, rootIn}
-use Rattle.tree.specs.Sum.{sumSize, sumSignature, sumVerdict}
+use Rattle.tree.specs.Sum.{sumSize, sumSignature, pathFits, leafAccepts, sumVerdict}
 use Rattle.tree.proofs.Reading.{sum-size}
 use Rattle.key.specs.Part.{nextAt, seamSize, partSize, bondIn, partIn, sumsIn, rootsIn, partSignature, sumsVerdict, partVerdict}
 use Rattle.key.specs.Table.{signatureSize}
@@ -39,18 +39,31 @@ product-signed d m out h1 h2 t {w} {size} {next} {below} {first} {second} {ys} {
     e₂ ∙ rw (n, es, lb, k, put-over [] (take first out) (ys ++ rest) bond 0 first refl lf, append-nil) (sym (append-assoc bond ys rest)) in
     e₃ ∙ rw (f₂, put-over (bond ++ ys) rest [] root (first + second) 32 l lr, er, ey, child, ew)
 
--- both sum signatures are checked, the second where the first is accepted
-module _ (key m x : List ℕ) (h1 h2 t : ℕ) {w first second : ℕ} {root : List ℕ} {yes : Bool} (ew : w ≡ 2 ^ h2) (ef : first ≡ sumSize h1) (es : second ≡ sumSize h2)
-    (er : root ≡ part x (first + second) 32) (e₁ : yes ≡ sumVerdict key h1 (t / w) root (part x 0 (first - 0))) where
-  parent : sumVerdict key h1 (t / 2 ^ h2) (part x (sumSize h1 + sumSize h2) 32) (take (sumSize h1) x) ≡ yes
-  parent = let z : first - 0 ≡ first = omega arith in sym (e₁ ∙ rw (er, z, ew, ef, es))
+-- both paths are looked at, and then both leaves asked
+module _ (key m x : List ℕ) (h1 h2 t : ℕ) {w first second : ℕ} {root : List ℕ} {parent child : Bool} (ew : w ≡ 2 ^ h2) (ef : first ≡ sumSize h1)
+    (es : second ≡ sumSize h2) (er : root ≡ part x (first + second) 32) (e₁ : parent ≡ pathFits key h1 (t / w) (part x 0 (first - 0)))
+    (e₂ : child ≡ pathFits root h2 (t % w) (part x first (first + second - first))) where
+  whole : partVerdict key h1 (h2 ∷ []) t m x
+      ≡ ((parent && leafAccepts root (part x 0 (first - 0))) && (child && leafAccepts m (part x first (first + second - first))))
+  unfolding partVerdict sumsVerdict sumVerdict
+  whole =
+      let z : first - 0 ≡ first = omega arith in
+      let n : first + second - first ≡ second = omega arith in
+      rw (e₁, e₂, z, n, er, ew, ef, es)
 
-  pub both-checked : {r : Bool} → yes ≡ true → r ≡ sumVerdict root h2 (t % w) m (part x first (first + second - first)) → r ≡ partVerdict key h1 (h2 ∷ []) t m x
-  unfolding partVerdict sumsVerdict
-  both-checked y e₂ =
-      let z : first + second - first ≡ second = omega arith in
-      rw (parent, y) (e₂ ∙ rw (z, er, ew, ef, es))
+  pub parent-strays : parent ≡ false → false ≡ partVerdict key h1 (h2 ∷ []) t m x
+  parent-strays n = rw (whole, n)
 
-  pub first-fails : yes ≡ false → false ≡ partVerdict key h1 (h2 ∷ []) t m x
-  unfolding partVerdict sumsVerdict
-  first-fails n = rw (parent, n)
+  pub child-strays : parent ≡ true → child ≡ false → false ≡ partVerdict key h1 (h2 ∷ []) t m x
+  child-strays y n = rw (whole, y, n) (neither (leafAccepts root (part x 0 (first - 0))))
+    where
+      neither : (b : Bool) → false ≡ (b && false)
+      neither true = refl
+      neither false = refl
+
+  module _ {yes : Bool} (y₁ : parent ≡ true) (y₂ : child ≡ true) (ea : yes ≡ leafAccepts root (part x 0 (first - 0))) where
+    pub parent-refused : yes ≡ false → false ≡ partVerdict key h1 (h2 ∷ []) t m x
+    parent-refused n = rw (whole, y₁, ← ea, n)
+
+    pub both-asked : {r : Bool} → yes ≡ true → r ≡ leafAccepts m (part x first (first + second - first)) → r ≡ partVerdict key h1 (h2 ∷ []) t m x
+    both-asked y e = rw (whole, y₁, y₂, ← ea, y) e

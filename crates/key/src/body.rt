@@ -128,7 +128,7 @@ pub(crate) fn sign_body(body: &[u8], header: Header, message: &[u8], out: &mut [
     fields::put32(out, sums, tree::root(&body[below..], h2));
 }
 
-// Whether the product signature over message is accepted at step t, under the verification key.
+// Whether the product signature over message is accepted at step t, under the verification key. Both paths come before Ed25519, which costs far more.
 pub(crate) fn accepted(
     key: [u8; 32],
     h1: usize,
@@ -147,8 +147,16 @@ pub(crate) fn accepted(
     let first = sum_size(h1);
     let sums = first + sum_size(h2);
     let root = fields::get32(signature, sums);
-    if tree::sum_verify(key, h1, t1, &root, &signature[0..first]) {
-        return tree::sum_verify(root, h2, t2, message, &signature[first..sums]);
+    let parent = tree::path_fits(key, h1, t1, &signature[0..first]);
+    let child = tree::path_fits(root, h2, t2, &signature[first..sums]);
+    if !parent {
+        return false;
+    }
+    if !child {
+        return false;
+    }
+    if tree::leaf_accepts(&root, &signature[0..first]) {
+        return tree::leaf_accepts(message, &signature[first..sums]);
     }
     false
 }

@@ -14,4 +14,6 @@ pub use moving::move_tree;
 pub use signing::sum_sign;
 pub use stored::forget_secret;
 pub use stored::root;
+pub use verifying::leaf_accepts;
+pub use verifying::path_fits;
 pub use verifying::sum_verify;

@@ -2,9 +2,10 @@ use mathlib.Core.Path.{refl}
 use Prim.Native.Nat.{_-_}
 use native.Mathlib.Omega.{arith}
 use borrow.Author.Needs.{needs}
+use borrow.Author.Tests.{not-true, not-false}
 use Rattle.fields.proofs.Laws.{length-part}
 use Rattle.key.proofs.Steps.{wide-pos, inner-lt, outer-lt}
-use Rattle.key.proofs.Signing.{both-checked, first-fails}
+use Rattle.key.proofs.Signing.{parent-strays, child-strays, parent-refused, both-asked}
 use Rattle.key.proofs.body.accepted.Statement.{statement}
 use Rattle.key.proofs.body.accepted.Tie as tie
 
@@ -14,18 +15,18 @@ div-t1 c = wide-pos (c .before .before .before .args .h2) (c .leaves .result) (c
 rem-t2 : tie.Need-rem-t2
 rem-t2 c = wide-pos (c .before .before .before .args .h2) (c .leaves .result) (c .leaves .ensures .0)
 
-sum-verify-requires : tie.Need-sum-verify-requires
-sum-verify-requires c κs =
-    let c₄ = c .before .before .before .before in
+path-fits-requires : tie.Need-path-fits-requires
+path-fits-requires c κs =
+    let c₄ = c .before .before .before in
     let c₅ = c₄ .before in
     let c₈ = c₅ .before .before .before in
     let a = c₈ .args in
     let l = length-part (a .signature .now) 0 (c₄ .sum-size .result - 0) (omega arith) in
     (c₈ .pre .0, outer-lt (a .h2) (c₅ .leaves .result) (c₅ .leaves .ensures .0) (a .h1) (c₈ .pre .2), omega arith)
 
-sum-verify-requires-2 : tie.Need-sum-verify-requires-2
-sum-verify-requires-2 c κs =
-    let c₆ = c .before .before .before .before .before .before in
+path-fits-requires-2 : tie.Need-path-fits-requires-2
+path-fits-requires-2 c κs =
+    let c₆ = c .before .before .before .before in
     let c₇ = c₆ .before in
     let c₈ = c₇ .before in
     let c₁₁ = c₈ .before .before .before in
@@ -35,36 +36,72 @@ sum-verify-requires-2 c κs =
 
 returns : tie.Need-returns
 returns c =
-    let c₂ = c .before .before in
-    let c₃ = c₂ .before in
-    let c₆ = c₃ .before .before .before in
-    let c₇ = c₆ .before in
-    let c₈ = c₇ .before in
-    let c₉ = c₈ .before in
-    let c₁₂ = c₉ .before .before .before in
-    let a = c₁₂ .args in
+    let p = c .before in
+    let q = p .before .before in
+    let r = q .before .before in
+    let s₂ = r .before in
+    let s₁ = s₂ .before in
+    let w = s₁ .before in
+    let a = w .before .before .before .args in
     let judged =
-    both-checked (a .key) (a .message .now) (a .signature .now) (a .h1) (a .h2) (a .t) (c₉ .leaves .ensures .0) (c₈ .sum-size .ensures)
-    (c₇ .sum-size2 .ensures) (c₆ .get32 .ensures) (c₃ .sum-verify .ensures .0) (c₂ .if1 .taken) (c .sum-verify2 .ensures .0) in
+    parent-strays (a .key) (a .message .now) (a .signature .now) (a .h1) (a .h2) (a .t) (w .leaves .ensures .0) (s₁ .sum-size .ensures)
+    (s₂ .sum-size2 .ensures) (r .get32 .ensures) (q .path-fits .ensures .0) (p .path-fits2 .ensures .0) (not-true _ (c .if1 .taken)) in
     (judged, (refl, refl))
 
 returns-2 : tie.Need-returns-2
 returns-2 c =
-    let c₁ = c .before in
-    let c₄ = c₁ .before .before .before in
-    let c₅ = c₄ .before in
-    let c₆ = c₅ .before in
-    let c₇ = c₆ .before in
-    let c₁₀ = c₇ .before .before .before in
-    let a = c₁₀ .args in
+    let p = c .before .before in
+    let q = p .before .before in
+    let r = q .before .before in
+    let s₂ = r .before in
+    let s₁ = s₂ .before in
+    let w = s₁ .before in
+    let a = w .before .before .before .args in
     let judged =
-    first-fails (a .key) (a .message .now) (a .signature .now) (a .h1) (a .h2) (a .t) (c₇ .leaves .ensures .0) (c₆ .sum-size .ensures)
-    (c₅ .sum-size2 .ensures) (c₄ .get32 .ensures) (c₁ .sum-verify .ensures .0) (c .if1 .left) in
+    child-strays (a .key) (a .message .now) (a .signature .now) (a .h1) (a .h2) (a .t) (w .leaves .ensures .0) (s₁ .sum-size .ensures)
+    (s₂ .sum-size2 .ensures) (r .get32 .ensures) (q .path-fits .ensures .0) (p .path-fits2 .ensures .0)
+    (not-false _ (c .before .if1 .left)) (not-true _ (c .if2 .taken)) in
+    (judged, (refl, refl))
+
+returns-3 : tie.Need-returns-3
+returns-3 c =
+    let c₃ = c .before .before .before in
+    let p = c₃ .before .before .before .before .before in
+    let q = p .before .before in
+    let r = q .before .before in
+    let s₂ = r .before in
+    let s₁ = s₂ .before in
+    let w = s₁ .before in
+    let a = w .before .before .before .args in
+    let judged =
+    both-asked (a .key) (a .message .now) (a .signature .now) (a .h1) (a .h2) (a .t) (w .leaves .ensures .0) (s₁ .sum-size .ensures)
+    (s₂ .sum-size2 .ensures) (r .get32 .ensures) (q .path-fits .ensures .0) (p .path-fits2 .ensures .0)
+    (not-false _ (c₃ .before .before .before .before .if1 .left)) (not-false _ (c₃ .before .before .before .if2 .left)) (c₃ .leaf-accepts .ensures .0)
+    (c .before .before .if3 .taken) (c .leaf-accepts2 .ensures .0) in
+    (judged, (refl, refl))
+
+returns-4 : tie.Need-returns-4
+returns-4 c =
+    let c₁ = c .before in
+    let p = c₁ .before .before .before .before .before in
+    let q = p .before .before in
+    let r = q .before .before in
+    let s₂ = r .before in
+    let s₁ = s₂ .before in
+    let w = s₁ .before in
+    let a = w .before .before .before .args in
+    let judged =
+    parent-refused (a .key) (a .message .now) (a .signature .now) (a .h1) (a .h2) (a .t) (w .leaves .ensures .0) (s₁ .sum-size .ensures)
+    (s₂ .sum-size2 .ensures) (r .get32 .ensures) (q .path-fits .ensures .0) (p .path-fits2 .ensures .0)
+    (not-false _ (c₁ .before .before .before .before .if1 .left)) (not-false _ (c₁ .before .before .before .if2 .left)) (c₁ .leaf-accepts .ensures .0)
+    (c .if3 .left) in
     (judged, (refl, refl))
 
 pub accepted-spec : {M : Type 1} → statement M
 accepted-spec =
     tie.close
     (tie.spec (λ c κs. search needs) div-t1 rem-t2 (λ c κs. search needs) (λ c κs. search needs) (λ c. search needs) (λ c κs. search needs)
-    (λ c. search needs) (λ c. search needs) (λ c. search needs) (λ c. search needs) sum-verify-requires (λ c. search needs) (λ c. search needs)
-    (λ c. search needs) sum-verify-requires-2 returns returns-2)
+    (λ c. search needs) (λ c. search needs) (λ c. search needs) path-fits-requires (λ c. search needs) (λ c. search needs)
+    (λ c. search needs) path-fits-requires-2 returns returns-2 (λ c. search needs) (λ c. search needs) (λ c. search needs)
+    (λ c. search needs) (λ c κs. search needs) (λ c. search needs) (λ c. search needs) (λ c. search needs) (λ c κs. search needs) returns-3
+    returns-4)
