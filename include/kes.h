@@ -51,6 +51,10 @@ enum kes_numbers {
 #define KES_TABLE_MAX 2952u
 #define KES_SIGNATURE_MAX 992u
 
+/* Stack that a caller leaves free below it: what a call may use, with the Ed25519 library, and what kes_wipe clears.
+ * Measured (host/test/stack): under 9,000 bytes with libsodium 1.0.18, under 11,000 with OpenSSL 3.0. The rest is margin. */
+#define KES_STACK 32768
+
 /* Sizes and steps of a key of these heights, 0 where a height is above 12. */
 #define KES_HEIGHTS_FIT(h1, h2) ((h1) <= KES_HEIGHT_MAX && (h2) <= KES_HEIGHT_MAX)
 #define KES_TABLE_SIZE(h1, h2) (KES_HEIGHTS_FIT(h1, h2) ? 264u + 128u * (size_t)(h1) + 96u * (size_t)(h2) : 0u)
@@ -86,6 +90,11 @@ KES_CHECKED uint32_t kes_verify(uint64_t h1, uint64_t h2, const uint8_t *key, si
 
 /* BLAKE2b (RFC 7693), no key, 32-byte digest, of message into digest; for running vectors. Refuses 7, 4. */
 KES_CHECKED uint32_t kes_hash(const uint8_t *message, size_t message_len, uint8_t *digest, size_t digest_len);
+
+/* NOT PROVED: C beside the proofs. Clears what the calls left behind below its caller: KES_STACK bytes of dead stack, and on
+ * x86-64 the registers that a call may leave as it likes. Call it after kes_make, kes_move and kes_sign, from the function that
+ * called them or one that called that. docs/SECURITY.md says what it does not reach. */
+void kes_wipe(void);
 
 #ifdef __cplusplus
 }

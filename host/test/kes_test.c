@@ -170,6 +170,14 @@ static void hashing(const char *abc)
     expect(kes_hash(in(&message), 3, in(&other), 31) == KES_LENGTH, "a short digest is refused with 4");
 }
 
+static void wiping(void)
+{
+    make();
+    other = table;
+    kes_wipe();
+    expect(memcmp(&other, &table, sizeof table) == 0, "wiping changes nothing that is lent");
+}
+
 int main(int argc, char **argv)
 {
     if (argc != 2)
@@ -181,6 +189,7 @@ int main(int argc, char **argv)
     moving();
     verifying();
     hashing(argv[1]);
+    wiping();
     if (failures == 0)
         puts("kes_test: every call answers as it must");
     return failures != 0;
