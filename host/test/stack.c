@@ -1,0 +1,155 @@
+/* stack: how far below its caller each call of kes.h reaches at heights 12 and 12, and that a thread with the least stack that kes.h
+ * allows can make them all. Each is the first call of its process, so what the dynamic linker and the Ed25519 library do once counts. */
+#define _GNU_SOURCE
+#include <pthread.h>
+#include <stdio.h>
+#include <sys/mman.h>
+#include <sys/wait.h>
+#include <unistd.h>
+
+#include "painted.h"
+
+enum { H1 = KES_HEIGHT_MAX, H2 = KES_HEIGHT_MAX, DEPTHS = 4 };
+
+/* Shared by the processes, so that each finds what the one before it made. */
+struct lent {
+    uint8_t seed[KES_SEED_SIZE], fresh[KES_TABLE_MAX], table[KES_TABLE_MAX], key[KES_KEY_SIZE], digest[KES_DIGEST_SIZE];
+    uint8_t message[KES_MESSAGE_MAX], signature[KES_SIGNATURE_MAX];
+    uint64_t step, answer;
+    size_t reach;
+};
+
+static struct lent *l;
+
+static void make(void)
+{
+    HERE();
+    memset(l->seed, 7, sizeof l->seed);
+    l->answer = kes_make(H1, H2, l->seed, sizeof l->seed, l->fresh, sizeof l->fresh);
+}
+
+static void move(void)
+{
+    HERE();
+    memcpy(l->table, l->fresh, sizeof l->table);
+    l->answer = kes_move(l->table, sizeof l->table, l->step);
+}
+
+static void read_key(void)
+{
+    HERE();
+    l->answer = kes_read_key(l->fresh, sizeof l->fresh, l->key, sizeof l->key);
+}
+
+static void sign(void)
+{
+    HERE();
+    l->answer = kes_sign(l->fresh, sizeof l->fresh, l->message, sizeof l->message, l->signature, sizeof l->signature);
+}
+
+static void verify(void)
+{
+    HERE();
+    l->answer = kes_verify(H1, H2, l->key, sizeof l->key, 0, l->message, sizeof l->message, l->signature, sizeof l->signature);
+}
+
+static void hash(void)
+{
+    HERE();
+    l->answer = kes_hash(l->message, sizeof l->message, l->digest, sizeof l->digest);
+}
+
+static const struct {
+    const char *name;
+    void (*run)(void);
+    uint64_t step;
+} calls[] = {
+    {"make", make, 0},
+    {"read key", read_key, 0},
+    {"sign", sign, 0},
+    {"verify", verify, 0},
+    {"hash", hash, 0},
+    {"move to the next step", move, 1},
+    {"move to the child's last step", move, ((uint64_t)1 << H2) - 1},
+    {"move to the next parent step", move, (uint64_t)1 << H2},
+    {"move to the last step", move, ((uint64_t)1 << (H1 + H2)) - 1},
+};
+
+enum { CALLS = sizeof calls / sizeof calls[0] };
+
+static void check(int holds, const char *what)
+{
+    if (holds)
+        return;
+    fprintf(stderr, "stack: FAILED: %s\n", what);
+    exit(1);
+}
+
+static void measure(size_t i)
+{
+    uint8_t *low = lowest(calls[i].run);
+    l->reach = (size_t)(caller - low);
+}
+
+static void wipe_at(size_t depth)
+{
+    volatile uint8_t frame[512];
+    frame[0] = (uint8_t)depth;
+    if (depth > 0)
+        wipe_at(depth - 1);
+    kes_wipe();
+    check(frame[0] == (uint8_t)depth, "kes_wipe changes its caller's frame");
+}
+
+static void *all_calls(void *none)
+{
+    size_t i;
+    for (i = 0; i < CALLS; i++) {
+        l->step = calls[i].step;
+        calls[i].run();
+        check(kes_number(l->answer) == KES_DONE, calls[i].name);
+        wipe_at(DEPTHS);
+    }
+    return none;
+}
+
+static void small_thread(size_t unused)
+{
+    size_t least = KES_STACK + (size_t)sysconf(_SC_THREAD_STACK_MIN);
+    pthread_attr_t attributes;
+    pthread_t thread;
+    (void)unused;
+    check(pthread_attr_init(&attributes) == 0 && pthread_attr_setstacksize(&attributes, least) == 0, "a stack's size is set");
+    check(pthread_create(&thread, &attributes, all_calls, NULL) == 0 && pthread_join(thread, NULL) == 0, "a thread runs");
+    l->reach = least;
+}
+
+/* Runs a function in a process of its own, in which the library was never called. */
+static void apart(void (*function)(size_t), size_t i, const char *name)
+{
+    int status = 0;
+    pid_t child = fork();
+    if (child == 0) {
+        function(i);
+        _exit(0);
+    }
+    check(child > 0 && waitpid(child, &status, 0) == child && status == 0, name);
+    check(kes_number(l->answer) == KES_DONE, name);
+}
+
+int main(void)
+{
+    size_t i, most = 0;
+    l = mmap(NULL, sizeof *l, PROT_READ | PROT_WRITE, MAP_SHARED | MAP_ANONYMOUS, -1, 0);
+    check(l != MAP_FAILED, "memory is shared");
+    for (i = 0; i < CALLS; i++) {
+        l->step = calls[i].step;
+        apart(measure, i, calls[i].name);
+        printf("stack: %-30s %6zu bytes\n", calls[i].name, l->reach);
+        most = l->reach > most ? l->reach : most;
+    }
+    check(2 * most <= KES_STACK, "KES_STACK is twice what the calls use, or more");
+    apart(small_thread, 0, "every call and kes_wipe in a small thread");
+    printf("stack: at most %zu of KES_STACK's %d bytes; a thread of %zu bytes makes every call and wipes\n", most, KES_STACK, l->reach);
+    return 0;
+}
