@@ -9,13 +9,21 @@ MAKE, READ_KEY, MOVE, SIGN, VERIFY, HASH = range(6)
 WRAP = [f"-Wl,--wrap=desk_ed25519_{name}" for name in ("public_key", "sign", "verify")]
 
 
+BEHIND = {"sodium": "-lsodium", "openssl": "-lcrypto"}
+
+
+def program(folder, name, adapter, *words):
+    """A program of host/test, compiled and linked with the library and an adapter."""
+    made = pathlib.Path(folder) / f"{name}_{adapter}"
+    archives = [ROOT / "build" / "libkes.a", ROOT / "build" / f"libkes_{adapter}.a", BEHIND[adapter]]
+    source = ROOT / "host" / "test" / f"{name}.c"
+    subprocess.run(["gcc", "-std=c99", "-O1", f"-I{ROOT / 'include'}", source, *archives, *words, "-o", made], check=True)
+    return made
+
+
 class Library:
     def __init__(self, folder):
-        build = ROOT / "build"
-        driver = pathlib.Path(folder) / "kes_driver"
-        source = ROOT / "host" / "test" / "kes_driver.c"
-        archives = [build / "libkes.a", build / "libkes_sodium.a"]
-        subprocess.run(["gcc", "-std=c99", "-O1", f"-I{ROOT / 'include'}", source, *archives, "-lsodium", *WRAP, "-o", driver], check=True)
+        driver = program(folder, "kes_driver", "sodium", *WRAP)
         self.process = subprocess.Popen([driver], stdin=subprocess.PIPE, stdout=subprocess.PIPE)
 
     def call(self, op, h1, h2, step, buffers):

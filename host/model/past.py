@@ -1,0 +1,70 @@
+"""What nobody may find at step t of a key: each seed from which a step up to t grows, each secret of those steps, and what Ed25519 makes
+of such a secret. What the table holds by document 01 is not among them: the secret of step t itself, and the seeds of later steps."""
+import hashlib
+import sys
+
+import ed25519
+import kes
+
+
+def number_of(word):
+    """A word of 8 bytes as this machine reads it."""
+    return int.from_bytes(word, sys.byteorder)
+
+
+def grown(seed, h, last):
+    """The seeds of a tree from which a leaf up to last grows: (seed, None) for the inner ones, (secret, leaf) for the leaves."""
+    if h == 0:
+        return [(seed, 0)]
+    half = 2 ** (h - 1)
+    found = [(seed, None)] + grown(kes.left(seed), h - 1, min(last, half - 1))
+    if last >= half:
+        found += [(s, None if leaf is None else leaf + half) for s, leaf in grown(kes.right(seed), h - 1, last - half)]
+    return found
+
+
+class Past:
+    """names has each value of 32 bytes with what it is; present is the one secret of step t."""
+
+    def __init__(self, seed, h1, h2, t, signatures=()):
+        self.names, self.parents, self.children = {seed: "the key's seed"}, {}, {}
+        t1, t2 = divmod(t, 2**h2)
+        self.tree("parent", grown(kes.left(seed), h1, t1), self.parents, 0)
+        stored = kes.right(seed)
+        for n in range(t1 + 1):
+            self.names[stored] = f"the seed before child {n}"
+            self.tree(f"child {n}", grown(kes.left(stored), h2, t2 if n == t1 else 2**h2 - 1), self.children, n * 2**h2)
+            stored = kes.right(stored)
+        self.present = self.children.pop(t)
+        del self.names[self.present]
+        for secret in [*self.parents.values(), *self.children.values()]:
+            self.expanded(self.names[secret], secret)
+        for step, message, signature in signatures:
+            # the last 32 bytes are the root that the parent's leaf signed
+            self.nonce(self.parents[step >> h2], signature[-32:])
+            if step != t:
+                self.nonce(self.children[step], message)
+
+    def tree(self, name, seeds, secrets, first):
+        for seed, leaf in seeds:
+            self.names[seed] = f"{name}: an inner seed" if leaf is None else f"{name}: the secret of leaf {leaf}"
+            if leaf is not None:
+                secrets[first + leaf] = seed
+
+    def halves(self, name, digest):
+        self.names[digest[:32]] = self.names[digest[32:]] = name
+
+    def expanded(self, name, secret):
+        """RFC 8032, 5.1.5: the secret's digest, and the scalar."""
+        self.halves(f"{name}, its SHA-512", hashlib.sha512(secret).digest())
+        self.names[ed25519.expanded(secret)[0].to_bytes(32, "little")] = f"{name}, its scalar"
+
+    def nonce(self, secret, message):
+        """RFC 8032, 5.1.6: with a signature's r and the signature anyone finds the scalar."""
+        digest = hashlib.sha512(ed25519.expanded(secret)[1] + message).digest()
+        self.halves(f"{self.names[secret]}, a nonce", digest)
+        self.names[(ed25519.number(digest) % ed25519.L).to_bytes(32, "little")] = f"{self.names[secret]}, a nonce"
+
+    def words(self):
+        """Every value in words of 8 bytes, as it lies in memory and as it is hashed behind one byte (rule 1), as numbers, with its name."""
+        return {number_of(value[at : at + 8]): name for value, name in self.names.items() for at in (0, 8, 16, 24, 7, 15, 23)}
