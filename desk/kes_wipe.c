@@ -3,6 +3,7 @@
 
 #if defined(__x86_64__) && defined(__linux__)
 
+/* KES_STACK as the assembler reads it, for which kes.h gives it without a suffix. */
 #define TEXT_OF(x) #x
 #define TEXT(x) TEXT_OF(x)
 

@@ -9,6 +9,7 @@
  *   - Every call answers on every input. A refusal changes nothing that was lent.
  *   - Sizes are exact: a table, key or signature one byte too long is refused as one that is too short.
  *   - Nothing is kept between calls. The caller owns all memory; a host stores a table with its length.
+ *   - What a call leaves in dead stack frames, secrets of the past among it, goes by kes_wipe alone.
  *   - One table, one thread at a time.
  *   - kes_make and kes_move answer a number and a count in one word: take them apart with kes_number and kes_count.
  *     Such a word is never 0 when the call is done, so `if (kes_move(..) == 0)` is always wrong.
