@@ -1,16 +1,22 @@
 # What there is to do here. README.md says what each is for.
-.PHONY: help demo test desk bench clean
+.PHONY: help demo test desk install bench clean
 
 help:
 	@echo 'make demo    build everything for the desk and show it at work'
 	@echo 'make test    every check there is: host tests, then the gate (rt ci)'
 	@echo 'make desk    build/: the library and programs with real Ed25519 (ED25519=sodium or openssl)'
+	@echo 'make install puts library, header, journal and man pages under PREFIX (and DESTDIR)'
 	@echo 'make bench   race the hash against libsodium and C code that follows the RFC'\''s'
 	@echo 'make clean   remove build/ and target/'
 
 desk:
 	@host/need gcc binutils libsodium-dev libssl-dev
 	@desk/build
+
+# what make desk has built, and it alone
+install:
+	@[ -x build/journal ] || $(MAKE) desk
+	@PREFIX='$(PREFIX)' DESTDIR='$(DESTDIR)' desk/install
 
 demo: desk
 	@host/demo
