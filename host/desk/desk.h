@@ -1,0 +1,20 @@
+/* desk.h: one desk, with its key and its journal in a folder. What a call does is done, and safe from a power cut, when it
+ * returns; what cannot be done ends the desk. */
+#ifndef DESK_H
+#define DESK_H
+
+#include <stdint.h>
+
+/* Makes the folder's key, at step 0, and its journal. */
+void desk_make(const char *folder, uint64_t h1, uint64_t h2);
+
+/* Opens the desk again, after a clean end or a crash. */
+void desk_open(const char *folder);
+
+/* Tops a card up: a record in the journal, money on the chip, "done" on the display. Card and amount are in a record's range. */
+void desk_top_up(const char *card, uint64_t amount);
+
+/* What the clock says: moves the key, if the step is a later one. */
+void desk_tick(uint64_t step);
+
+#endif
