@@ -243,6 +243,16 @@ def break_off(desk):
     print("crash: calls broken off and done in pieces change nothing")
 
 
+def forget(desk):
+    """When the desk has ended, well or not, its variables hold no secret."""
+    memory = desk.work / "memory"
+    for files, words, events, whole in whole_runs(desk):
+        for trouble in {}, {"DESK_FAIL": len(whole.calls)}:
+            desk.run(files, *words, events=events, DESK_MEMORY=memory, **trouble)
+            need(not any(secret in memory.read_bytes() for secret in [known_key.SEED, *SECRETS]), f"after {words[0]} the memory holds a secret")
+    print("crash: when the desk has ended, its variables hold no secret")
+
+
 def refuse(desk):
     """What no crash leaves is left to people: the desk does not open, and changes nothing."""
     made, day = (whole.files for *_, whole in whole_runs(desk))
@@ -285,13 +295,11 @@ def planted(work, edits):
     shutil.copy(ROOT / "host" / "desk_day.c", work / "host")
     for name in "include", "build":
         (work / name).symlink_to(ROOT / name)
-    source = work / "host" / "desk" / "desk.c"
-    text = source.read_text()
     for old, new in edits:
-        if text.count(old) != 1:
-            sys.exit(f"crash: this text does not stand once in desk.c:\n{old}")
-        text = text.replace(old, new)
-    source.write_text(text)
+        sources = [path for path in (work / "host" / "desk").glob("*.c") if old in path.read_text()]
+        if len(sources) != 1 or sources[0].read_text().count(old) != 1:
+            sys.exit(f"crash: this text does not stand once in the desk's sources:\n{old}")
+        sources[0].write_text(sources[0].read_text().replace(old, new))
     return work
 
 
@@ -301,6 +309,7 @@ def catch(what, said, edits):
         desk = Desk(planted(work, edits), work)
         try:
             crash_often(desk)
+            forget(desk)
         except Wrong as wrong:
             if said in str(wrong):
                 return
@@ -314,7 +323,7 @@ def main():
         need(known_key.check(), "the search for past keys does not tell them from present ones")
         with tempfile.TemporaryDirectory() as folder:
             desk = Desk(ROOT, pathlib.Path(folder))
-            for ask in keep_promises, stop_for_real, fail, break_off, refuse, keep_out:
+            for ask in keep_promises, stop_for_real, fail, break_off, forget, refuse, keep_out:
                 ask(desk)
     except Wrong as wrong:
         sys.exit(f"crash: {wrong}")

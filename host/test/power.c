@@ -2,7 +2,8 @@
  * DESK_LOG names, the seed is 0, 1, 2, .., and nothing is synced in earnest, since crash.py says what a power cut leaves.
  *   DESK_STOP=n    the process ends before call n
  *   DESK_FAIL=n    call n is not made and fails
- *   DESK_BROKEN=1  what a signal can break off is broken off once, and what is read or written comes in pieces */
+ *   DESK_BROKEN=1  what a signal can break off is broken off once, and what is read or written comes in pieces
+ *   DESK_MEMORY=f  file f gets what the program's variables hold when it has ended */
 #define _DEFAULT_SOURCE
 #include <errno.h>
 #include <fcntl.h>
@@ -74,6 +75,20 @@ static int fails(int how)
 static size_t piece(size_t len)
 {
     return asked("DESK_BROKEN") && len > 1 ? len / 2 : len;
+}
+
+/* From the linker: where the variables begin and end. */
+extern char __data_start[], _end[];
+
+/* Runs after all that the desk does at its exit. */
+__attribute__((destructor)) static void keep_memory(void)
+{
+    const char *name = getenv("DESK_MEMORY");
+    FILE *out = name == NULL ? NULL : fopen(name, "wb");
+    if (out == NULL)
+        return;
+    fwrite(__data_start, 1, (size_t)(_end - __data_start), out);
+    fclose(out);
 }
 
 int __wrap_openat(int folder, const char *name, int flags, ...)

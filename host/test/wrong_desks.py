@@ -20,7 +20,7 @@ MOVED = """    need(kes_number(moved), "kes_move");
 
 LACKS, PAST, STUCK, FREED = "the journal lacks a record", "can sign a step before", "the desk does not go on", "freed blocks hold a key"
 
-# what is wrong, what is said of it, and the edits: a text that stands once in desk.c, and another in its place
+# what is wrong, what is said of it, and the edits: a text that stands once in the desk's sources, and another in its place
 WRONG = [
     ('"done" before the record is synced', LACKS, [(SYNC_RECORD, SYNC_RECORD.replace("    file_sync(desk.journal);\n", ""))]),
     ('"done" before the record is written', LACKS, [(STORE + MONEY + DONE, MONEY + DONE + STORE)]),
@@ -40,5 +40,6 @@ WRONG = [
     ("the next start does not sync what a killed desk appended", LACKS, [("    file_sync(desk.journal);\n    if (tail.end", "    if (tail.end")]),
     ("the next start leaves a torn line", "the journal is not good", [("tail.from + (off_t)tail.end)", "tail.from + (off_t)tail.len)")]),
     ("the next start does not name the last record", "is not named", [("    if (desk.serial > 0)\n", "    if (0)\n")]),
+    ("the key stays in memory", "memory holds a secret", [("        at[i] = 0;\n", "        (void)at[i];\n")]),
     ("the key gets its name before the journal is there", STUCK, [("    store_header();\n    write_new_key();\n    name_new_key();\n", "    write_new_key();\n    name_new_key();\n    store_header();\n")]),
 ]
