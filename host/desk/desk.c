@@ -1,7 +1,7 @@
 /* The order of work, which is the point of this example. A desk once showed "done", moved its key, and only then went to sign:
  * the step was gone, its top-up could no longer be signed, and a member lost the money. So here
  *
- *     a top-up:  sign, check, append the record, sync, write the chip, show "done"
+ *     a top-up:  sign, check, append the record, sync, append its LF, sync, write the chip, show "done"
  *     a tick:    move in memory, write key.new, sync, give key the second name key.old, sync, rename key.new to key, sync,
  *                zero key.old, sync, remove it
  *
@@ -194,8 +194,8 @@ static int read_last(struct record *last, const struct tail *tail)
     return 1;
 }
 
-/* A line without its LF was never synced, so "done" was never shown for it: it is cut off. What stays is synced before it is
- * counted on, since a killed desk may have written it and no more. Whether the last record was shown as done, the clerk knows. */
+/* For a line without its LF "done" was never shown: it is cut off. What stays is synced before it is counted on, since a killed desk
+ * may have written it and no more. Whether the last record was shown as done, only the clerk knows. */
 static void open_journal(void)
 {
     struct tail tail;
@@ -236,11 +236,14 @@ static void sign(struct record *record)
         refuse("a new record is not good; is the key file damaged?");
 }
 
+/* The LF comes last and alone, since a file's blocks may reach the disk in any order: a line that has its LF has all the rest. */
 static void store_record(const struct record *record)
 {
     char line[LINE_MOST];
     size_t len = record_line(line, record);
-    file_write(desk.journal, line, len);
+    file_write(desk.journal, line, len - 1);
+    file_sync(desk.journal);
+    file_write(desk.journal, line + len - 1, 1);
     file_sync(desk.journal);
     desk.serial = record->serial;
 }

@@ -108,7 +108,7 @@ class Desk:
         self.work, self.program = work, work / "desk_day"
         power = ROOT / "host" / "test" / "power.c"
         wraps = [f"-Wl,--wrap={name}" for name in re.findall(r"^BOTH\((\w+)\);", power.read_text(), re.M)]
-        subprocess.run([root / "host" / "desk" / "compile", self.program, power, *wraps], check=True)
+        subprocess.run([root / "host" / "desk" / "compile", self.program, "-O0", power, *wraps], check=True)
         self.restart = functools.cache(self.restart)
         self.checked, self.explored = set(), set()
 

@@ -12,13 +12,14 @@ class File:
         self.data = self.data[:at] + data + self.data[at + len(data) :]
 
     def left(self):
-        """What a power cut may leave: as synced, as written, new bytes up to somewhere, or zeros in their place."""
+        """What a power cut may leave: as synced, as written, new bytes up to somewhere, or zeros in place of all or the first."""
         if self.data == self.safe:
             return {self.data}
         same = len(os.path.commonprefix([self.safe, self.data]))
         new = len(self.data) - same
         torn = [self.data[: same + n] + self.safe[same + n :] for n in (1, new // 2, new - 1) if 0 < n < new]
-        return {self.safe, self.data, self.data[:same] + bytes(new), *torn}
+        holes = [self.data[:same] + bytes(n) + self.data[same + n :] for n in (new, new // 2)]
+        return {self.safe, self.data, *torn, *holes}
 
 
 def changed(names, gone, name, file):

@@ -1,8 +1,7 @@
 """Desks that work in a wrong order: edits of the example desk, each with what crash.py has to say of it."""
 
-SYNC_RECORD = """    file_write(desk.journal, line, len);
-    file_sync(desk.journal);
-    desk.serial"""
+LINE, LF = "    file_write(desk.journal, line, len - 1);\n", "    file_write(desk.journal, line + len - 1, 1);\n"
+SYNC = "    file_sync(desk.journal);\n"
 SYNC_KEY = """    file_sync(file);
     file_close(file);
 """
@@ -22,7 +21,8 @@ LACKS, PAST, STUCK, FREED = "the journal lacks a record", "can sign a step befor
 
 # what is wrong, what is said of it, and the edits: a text that stands once in the desk's sources, and another in its place
 WRONG = [
-    ('"done" before the record is synced', LACKS, [(SYNC_RECORD, SYNC_RECORD.replace("    file_sync(desk.journal);\n", ""))]),
+    ('"done" before the record is synced', LACKS, [(LF + SYNC, LF)]),
+    ("a record and its LF are synced together", STUCK, [(LINE + SYNC, LINE)]),
     ('"done" before the record is written', LACKS, [(STORE + MONEY + DONE, MONEY + DONE + STORE)]),
     ("money before the record", LACKS, [(STORE + MONEY, MONEY + STORE)]),
     ("a moved key signs before it is stored", PAST, [(MOVED + "    replace_key();\n", MOVED), (DONE, DONE + "    replace_key();\n")]),
