@@ -262,7 +262,8 @@ def refuse(desk):
         (journal, first_key),  # an old key was put back
         (journal, key[:-1]),
         (journal, key + b"\0"),
-        (journal[:-3] + b"0\n", key),
+        (journal[:-3] + b"\n", key),
+        (journal.replace(b"\t100\t", b"\t101\t"), key),
         (journal + b"\n", key),
         (journal + b"x" * 5000, key),
         (b"".join(lines[1:]), key),
