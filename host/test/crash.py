@@ -195,15 +195,11 @@ def rest_of_day(last):
 # What is asked of it.
 
 
-def crash_often(desk):
+def keep_promises(desk):
     """One crash first, which tells most of it; then two."""
     for crashes in 1, 2:
         desk.explore(Disk(NO_FILES), crashes)
-
-
-def keep_promises(desk):
-    crash_often(desk)
-    print(f"crash: {len(desk.checked)} crashes, one or two in a row: every promise is kept")
+    return f"{len(desk.checked)} crashes, one or two in a row: every promise is kept"
 
 
 def whole_runs(desk):
@@ -221,7 +217,7 @@ def stop_for_real(desk):
             ran = desk.run(files, *words, events=events, DESK_STOP=n)
             need(ran.calls == whole.calls[: n - 1] and ran.files == disk.seen() and ran.text == disk.shown, f"stopped before call {n}, {call.split()[0]}, the desk leaves something else than the model")
             disk.do(call)
-    print(f"crash: stopped for real before each of {n} calls of a day, the desk leaves what the model says")
+    return f"stopped for real before each of {n} calls of a day, the desk leaves what the model says"
 
 
 def fail(desk):
@@ -231,7 +227,7 @@ def fail(desk):
             ran = desk.run(files, *words, events=events, DESK_FAIL=n)
             need(ran.status == 1 and ran.error, f"call {n}, {call.split()[0]}, fails and the desk goes on")
             desk.check(ran.files, ran.text)
-    print(f"crash: where any of {n} calls of a day fails, the desk ends, and no promise is broken")
+    return f"where any of {n} calls of a day fails, the desk ends, and no promise is broken"
 
 
 def break_off(desk):
@@ -240,7 +236,7 @@ def break_off(desk):
         ran = desk.run(files, *words, events=events, DESK_BROKEN=1)
         need((ran.status, ran.text, ran.files) == (0, whole.text, whole.files), f"broken calls change what comes of {words[0]}")
         need(len(ran.calls) > len(whole.calls), "no call was broken")
-    print("crash: calls broken off and done in pieces change nothing")
+    return "calls broken off and done in pieces change nothing"
 
 
 def forget(desk):
@@ -248,9 +244,10 @@ def forget(desk):
     memory = desk.work / "memory"
     for files, words, events, whole in whole_runs(desk):
         for trouble in {}, {"DESK_FAIL": len(whole.calls)}:
+            memory.unlink(missing_ok=True)
             desk.run(files, *words, events=events, DESK_MEMORY=memory, **trouble)
             need(not any(secret in memory.read_bytes() for secret in [known_key.SEED, *SECRETS]), f"after {words[0]} the memory holds a secret")
-    print("crash: when the desk has ended, its variables hold no secret")
+    return "when the desk has ended, its variables hold no secret"
 
 
 def refuse(desk):
@@ -275,7 +272,7 @@ def refuse(desk):
     for files in day, frozenset(file for file in day if "key" not in file[0]):
         ran = desk.run(files, "make", H1, H2)
         need(ran.status == 1 and ran.files == files, "a key is made where a desk is")
-    print("crash: the desk opens on no journal or key that a crash cannot leave")
+    return "the desk opens on no journal or key that a crash cannot leave"
 
 
 def keep_out(desk):
@@ -287,7 +284,7 @@ def keep_out(desk):
         second = subprocess.run(command, env=env, input=b"", capture_output=True)
         first.stdin.close()
     need(second.returncode == 1 and not second.stdout and first.returncode == 0, "two desks are open in one folder")
-    print("crash: a second desk is kept out of the folder")
+    return "a second desk is kept out of the folder"
 
 
 def planted(work, edits):
@@ -309,8 +306,8 @@ def catch(what, said, edits):
         work = pathlib.Path(folder)
         desk = Desk(planted(work, edits), work)
         try:
-            crash_often(desk)
-            forget(desk)
+            for ask in forget, keep_promises:
+                ask(desk)
         except Wrong as wrong:
             if said in str(wrong):
                 return
@@ -325,7 +322,7 @@ def main():
         with tempfile.TemporaryDirectory() as folder:
             desk = Desk(ROOT, pathlib.Path(folder))
             for ask in keep_promises, stop_for_real, fail, break_off, forget, refuse, keep_out:
-                ask(desk)
+                print("crash:", ask(desk))
     except Wrong as wrong:
         sys.exit(f"crash: {wrong}")
     for wrong_desk in WRONG:
