@@ -91,7 +91,7 @@ static void make_table(uint64_t h1, uint64_t h2)
         failed("random numbers");
     desk.table_len = kes_table_size(h1, h2);
     made = kes_make(h1, h2, desk.seed, sizeof desk.seed, desk.table, desk.table_len);
-    forget();
+    kes_wipe();
     need(kes_number(made), "kes_make");
     need(kes_read_key(desk.table, desk.table_len, desk.key, sizeof desk.key), "kes_read_key");
 }
@@ -230,7 +230,7 @@ static void sign(struct record *record)
     char message[MESSAGE_MOST];
     size_t len = record_message(message, record);
     uint32_t number = kes_sign(desk.table, desk.table_len, (const uint8_t *)message, len, record->signature, record->signature_len);
-    forget();
+    kes_wipe();
     need(number, "kes_sign");
     if (!is_good(record))
         refuse("a new record is not good; is the key file damaged?");
@@ -279,7 +279,7 @@ void desk_tick(uint64_t step)
     if (step <= step_now())
         return;
     moved = kes_move(desk.table, desk.table_len, step);
-    forget();
+    kes_wipe();
     need(kes_number(moved), "kes_move");
     replace_key();
     show("step: %" PRIu64 "\n", step);

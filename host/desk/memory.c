@@ -23,10 +23,6 @@ static void wipe_guarded(void)
         at[i] = 0;
 }
 
-void forget(void)
-{
-}
-
 static void keep_from_core_files(void)
 {
     struct rlimit none = {0, 0};

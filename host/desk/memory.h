@@ -7,7 +7,4 @@
 /* Locks the program's memory, the stack with it, and sees to it that the secrets are wiped however the program exits. */
 void memory_guard(void *secrets, size_t len);
 
-/* Clears what a call with secrets left on the stack; comes after each make, move and sign. */
-void forget(void);
-
 #endif
