@@ -1,62 +1,14 @@
 #!/usr/bin/env python3
 """Random calls of the C library, good and damaged, byte for byte against the independent model: the answer, the end value of
 every buffer, and how often Ed25519 was asked. Reproducible: calls.py [SEED [CASES]]. Needs desk/build before."""
-import pathlib
 import random
 import sys
 import tempfile
 import time
 
-ROOT = pathlib.Path(__file__).resolve().parents[2]
 sys.dont_write_bytecode = True
-sys.path.insert(0, str(ROOT / "host" / "model"))
-import ed25519
-import kes
 from library import HASH, MAKE, MOVE, READ_KEY, SIGN, VERIFY, Library
-
-NAMES = ["make", "read key", "move", "sign", "verify", "hash"]
-
-
-class Model:
-    """The same calls by the model, with a count of what a library that grows in one pass asks of Ed25519."""
-
-    def __init__(self):
-        self.scheme = kes.Scheme(ed25519)
-        self.verified = 0
-        honest = ed25519.verify
-
-        def verify(key, message, signature):
-            self.verified += 1
-            return honest(key, message, signature)
-
-        self.scheme.ed = type("Counted", (), {"sign": staticmethod(ed25519.sign), "verify": staticmethod(verify)})
-
-    def call(self, op, h1, h2, step, buffers):
-        a, b, c = left = [bytearray(x) for x in buffers]
-        before = kes.read_header(a)
-        self.verified = 0
-        s = self.scheme
-        number, count = {
-            MAKE: lambda: s.make(h1, h2, a, b),
-            READ_KEY: lambda: (s.read_key(a, b), 0),
-            MOVE: lambda: s.move(a, step),
-            SIGN: lambda: (s.sign(a, b, c), 0),
-            VERIFY: lambda: (s.verify(h1, h2, a, step, b, c), 0),
-            HASH: lambda: (kes.hash_call(a, b), 0),
-        }[op]()
-        asked = self.asked(op, h1, h2, step, before) if number == 0 else [0, 0, 0]
-        asked[2] = self.verified
-        return number + (count << 32), asked, [bytes(x) for x in left]
-
-    def asked(self, op, h1, h2, step, before):
-        if op == MAKE:
-            return [2**h1 + 2**h2, 1, 0]
-        if op == MOVE:
-            h1, h2, now = before
-            if now >> h2 == step >> h2:
-                return [2 ** kes.highest_difference(now, step), 0, 0]
-            return [2 ** kes.highest_difference(now >> h2, step >> h2) + 2**h2, 1, 0]
-        return [0, 1 if op == SIGN else 0, 0]
+from modelled import NAMES, Model, kes, show
 
 
 class Desk:
@@ -140,11 +92,6 @@ class Desk:
         if not self.table:
             return self.make()
         return self.draw.choice([self.make, self.read_key, self.move, self.move, self.move, self.sign, self.sign, self.verify, self.verify, self.hash])()
-
-
-def show(request):
-    op, h1, h2, step, buffers = request
-    return f"{NAMES[op]} h1={h1} h2={h2} step={step} " + " ".join(b.hex() or "-" for b in buffers)
 
 
 def main():

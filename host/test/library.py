@@ -1,30 +1,36 @@
-"""The static library with libsodium behind it, in a process of its own (kes_driver.c), for tests from Python. Needs desk/build before."""
+"""The static library with libsodium behind it, in a process of its own (kes_driver.c, lent.c), for tests from Python. Needs desk/build before."""
 import pathlib
 import struct
 import subprocess
-import sys
 
 ROOT = pathlib.Path(__file__).resolve().parents[2]
 MAKE, READ_KEY, MOVE, SIGN, VERIFY, HASH = range(6)
-WRAP = [f"-Wl,--wrap=desk_ed25519_{name}" for name in ("public_key", "sign", "verify")]
-
-
 BEHIND = {"sodium": "-lsodium", "openssl": "-lcrypto"}
+COUNTED = ["desk_ed25519_public_key", "desk_ed25519_sign", "desk_ed25519_verify"]
+STRICT = ["-std=c99", "-O1", "-Wall", "-Wextra", "-Wconversion", "-pedantic", "-Werror"]
 
 
-def program(folder, name, adapter, *words):
-    """A program of host/test, compiled and linked with the library and an adapter."""
-    made = pathlib.Path(folder) / f"{name}_{adapter}"
+class Ended(Exception):
+    """The driver ended without an answer."""
+
+
+def program(folder, name, adapter="sodium", *words):
+    """The program of host/test/NAME.c, compiled with these words and linked with the library and an adapter."""
+    made, source = pathlib.Path(folder) / f"{name}_{adapter}", ROOT / "host" / "test" / f"{name}.c"
     archives = [ROOT / "build" / "libkes.a", ROOT / "build" / f"libkes_{adapter}.a", BEHIND[adapter]]
-    source = ROOT / "host" / "test" / f"{name}.c"
-    subprocess.run(["gcc", "-std=c99", "-O1", f"-I{ROOT / 'include'}", source, *archives, *words, "-o", made], check=True)
+    subprocess.run(["gcc", *STRICT, f"-I{ROOT / 'include'}", source, *words, *archives, "-o", made], check=True)
     return made
+
+
+def linked(folder, name, wrapped=(), flags=()):
+    """The same over lent.c; calls of Ed25519 and of the wrapped functions go through the program's own."""
+    wraps = [f"-Wl,--wrap={function}" for function in [*COUNTED, *wrapped]]
+    return program(folder, name, "sodium", *flags, ROOT / "host" / "test" / "lent.c", *wraps)
 
 
 class Library:
     def __init__(self, folder):
-        driver = program(folder, "kes_driver", "sodium", *WRAP)
-        self.process = subprocess.Popen([driver], stdin=subprocess.PIPE, stdout=subprocess.PIPE)
+        self.process = subprocess.Popen([linked(folder, "kes_driver")], stdin=subprocess.PIPE, stdout=subprocess.PIPE)
 
     def call(self, op, h1, h2, step, buffers):
         lengths = [len(b) for b in buffers]
@@ -36,5 +42,5 @@ class Library:
     def read(self, n):
         data = self.process.stdout.read(n)
         if len(data) != n:
-            sys.exit("library: it ended without an answer")
+            raise Ended(f"library: the driver ended without an answer, status {self.process.wait()}")
         return data

@@ -1,0 +1,39 @@
+/* One call of the library over lent buffers, as a hostile reviewer makes it.
+ *
+ * The call is made twice: once each buffer ends where a page begins that must not be touched, once each begins where such a page
+ * ends. A length of 0 goes as a pointer into that page the first time, as a null pointer the second. What kes.h lends read-only is
+ * mapped read-only during the call, and everything is where the first time was refused: a refusal writes nothing.
+ * A call that touches what it was not lent, does not end, or answers or leaves something else the second time ends the process. */
+#ifndef LENT_H
+#define LENT_H
+
+#include <stddef.h>
+#include <stdint.h>
+
+enum { MAKE, READ_KEY, MOVE, SIGN, VERIFY, HASH, CALLS };
+enum { LENT = 3, MOST = 8192 };
+
+/* Seconds after which a call is held to hang. */
+#ifndef TIME_LIMIT
+#define TIME_LIMIT 20
+#endif
+
+struct request {
+    int op;
+    uint64_t h1, h2, step;
+    size_t len[LENT];
+    uint8_t bytes[LENT][MOST];
+};
+
+/* What was answered, how often each Ed25519 call was made, and the buffers as they were left. */
+struct outcome {
+    uint64_t answer;
+    uint32_t asked[3];
+    uint8_t left[LENT][MOST];
+};
+
+/* Once, before the first call. */
+void lend_start(void);
+void lend(const struct request *request, struct outcome *outcome);
+
+#endif
