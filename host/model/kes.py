@@ -100,7 +100,7 @@ class Scheme:
     def __init__(self, ed):
         self.ed = ed
         # a fixed function of its input, so a key pair need not be made twice
-        self.public_key = functools.lru_cache(maxsize=None)(ed.public_key)
+        self.public_key = functools.lru_cache(maxsize=2**16)(ed.public_key)
 
     # One tree: rules 2 to 6.
 

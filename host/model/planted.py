@@ -1,5 +1,6 @@
-"""Document 01's "Errors that look right", each planted in the model, so that tests can show that a comparison notices it."""
-from kes import TALLEST, Scheme, steps
+"""Document 01's "Errors that look right", and some that only hostile input shows, each planted in the model, so that tests can show
+that a comparison notices it."""
+from kes import DONE, LENGTH, TABLE, TALLEST, ZEROS, Scheme, read_body, read_header, signature_size, steps
 
 
 class StepModulo(Scheme):
@@ -43,3 +44,49 @@ class SecretKept(Scheme):
 
 
 PLANTED = [StepModulo, SeedKept, ChainOnce, FromTheRoot, SecretKept]
+
+
+class StepCut(Scheme):
+    """A step is cut to 32 bits."""
+
+    def move(self, table, step):
+        return super().move(table, step % 2**32)
+
+
+class LengthFirst(Scheme):
+    """Signing judges 4 before 7."""
+
+    def sign(self, table, message, out):
+        found = read_header(table)
+        return LENGTH if found and len(out) != signature_size(*found[:2]) else super().sign(table, message, out)
+
+
+class SeedGone(Scheme):
+    """A refused make zeroes the seed, too."""
+
+    def make(self, h1, h2, seed, table):
+        answer = super().make(h1, h2, seed, table)
+        seed[:] = bytes(len(seed))
+        return answer
+
+
+class NextSeedGone(Scheme):
+    """At the last parent step no next seed is stored."""
+
+    def move(self, table, step):
+        answer = super().move(table, step)
+        if answer[0] == DONE and step >> table[1] == 2 ** table[0] - 1:
+            at = len(table) - len(read_body(table, *table[:2])[3])
+            table[at - 32 : at] = ZEROS
+        return answer
+
+
+class BodyJudged(Scheme):
+    """A table whose child leaf's secret and vk do not fit is refused with 3."""
+
+    def sign(self, table, message, out):
+        leaf = bytes(table[-64:])
+        return TABLE if read_header(table) and self.leaf(leaf[:32]) != leaf else super().sign(table, message, out)
+
+
+HOSTILE = [StepCut, LengthFirst, SeedGone, NextSeedGone, BodyJudged]

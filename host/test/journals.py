@@ -22,16 +22,16 @@ HEIGHTS = [(0, 0), (1, 2), (2, 1)]
 class Day:
     """A key, its header line, and the lines of its day: serials from 1 on, each signed at a step that never falls."""
 
-    def __init__(self, draw, h1, h2, lines):
+    def __init__(self, draw, h1, h2, lines, scheme=SCHEME):
         table, key, signature = bytearray(kes.table_size(h1, h2)), bytearray(32), bytearray(kes.signature_size(h1, h2))
-        SCHEME.make(h1, h2, bytearray(draw.randbytes(32)), table)
-        SCHEME.read_key(table, key)
+        scheme.make(h1, h2, bytearray(draw.randbytes(32)), table)
+        scheme.read_key(table, key)
         self.header = b"kes\t%d\t%d\t%s" % (h1, h2, key.hex().encode())
         self.lines = []
         for serial in range(1, lines + 1):
-            SCHEME.move(table, serial * kes.steps(h1, h2) // (lines + 1))
+            scheme.move(table, serial * kes.steps(h1, h2) // (lines + 1))
             card, amount = b"%016d" % draw.randrange(10**16), b"%d" % draw.randrange(1, 2_000_001)
-            SCHEME.sign(table, card + b"%d" % serial + amount, signature)
+            scheme.sign(table, card + b"%d" % serial + amount, signature)
             fields = [b"%d" % kes.read_header(table)[2], card, b"%d" % serial, amount, signature.hex().encode()]
             self.lines.append(b"\t".join(fields))
 
@@ -99,4 +99,5 @@ def main():
     print(f"journals: {count} journals are judged as by the model: {letters} ({time.time() - began:.0f} s)")
 
 
-main()
+if __name__ == "__main__":
+    main()

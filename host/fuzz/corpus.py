@@ -1,0 +1,91 @@
+"""What hostile calls start from: honest keys, tables and signatures of small heights, and signatures of any height over trees that
+were chosen to fit, so that even a key or signature which no honest signer makes gets as far as Ed25519."""
+import functools
+
+import ed25519
+import kes
+import sodium
+from mutate import SMALL_ORDER, above
+
+SCHEME = kes.Scheme(sodium)
+
+
+@functools.lru_cache(maxsize=2**10)
+def table(h1, h2, seed, step):
+    """The table of an honest key at a step."""
+    made = bytearray(kes.table_size(h1, h2))
+    SCHEME.make(h1, h2, bytearray([seed]) * 32, made)
+    SCHEME.move(made, step)
+    return bytes(made)
+
+
+def key(h1, h2, seed):
+    out = bytearray(32)
+    SCHEME.read_key(table(h1, h2, seed, 0), out)
+    return bytes(out)
+
+
+def signature(h1, h2, seed, step, message):
+    out = bytearray(kes.signature_size(h1, h2))
+    SCHEME.sign(table(h1, h2, seed, step), message[: kes.LONGEST], out)
+    return bytes(out)
+
+
+# Signers: each answers a leaf's vk and its 64 bytes for a message. Only the first and the last are ever accepted.
+
+
+def honest(draw, message):
+    secret = bytes([draw.randrange(4)]) * 32
+    return SCHEME.public_key(secret), sodium.sign(secret, message)
+
+
+def unreduced(draw, message):
+    vk, signed = honest(draw, message)
+    return vk, signed[:32] + above(signed[32:])
+
+
+def small_key(draw, message):
+    return draw.choice(SMALL_ORDER), draw.choice(SMALL_ORDER) + bytes(32)
+
+
+def small_first_half(draw, message):
+    """R of small order, and the S that fits it."""
+    secret, first = bytes([draw.randrange(4)]) * 32, draw.choice(SMALL_ORDER)
+    vk = SCHEME.public_key(secret)
+    s = ed25519.hashed(first, vk, message) * ed25519.expanded(secret)[0] % ed25519.L
+    return vk, first + s.to_bytes(32, "little")
+
+
+def junk(draw, message):
+    return draw.randbytes(32), draw.randbytes(64)
+
+
+def mixed(draw, message):
+    """A key with a part of small order, and a signature whose challenge makes that part vanish."""
+    secret, part = bytes([draw.randrange(4)]) * 32, ed25519.decoded(draw.choice(SMALL_ORDER[:8]))
+    scalar = ed25519.expanded(secret)[0]
+    vk = ed25519.encoded(ed25519.add(ed25519.decoded(SCHEME.public_key(secret)), part))
+    for r in range(1, 200):
+        first = ed25519.encoded(ed25519.times(r, ed25519.BASE))
+        challenge = ed25519.hashed(first, vk, message) % ed25519.L
+        if challenge % 8 == 0:
+            break
+    return vk, first + ((r + challenge * scalar) % ed25519.L).to_bytes(32, "little")
+
+
+SIGNERS = [honest, honest, honest, honest, unreduced, small_key, small_first_half, junk, mixed]
+
+
+def over(draw, h, t, message):
+    """A sum signature by any signer under a path of random witnesses, and the root that this path leads to."""
+    vk, signed = draw.choice(SIGNERS)(draw, message)
+    witnesses = [draw.randbytes(32) for _ in range(h)]
+    return vk + signed + b"".join(witnesses), SCHEME.climb(kes.H(vk), witnesses, t)
+
+
+def chosen(draw, h1, h2, step, message):
+    """A product signature whose paths fit, and its verification key."""
+    t1, t2 = divmod(step, 2**h2)
+    childs, r2 = over(draw, h2, t2, message)
+    parents, root = over(draw, h1, t1, r2)
+    return parents + childs + r2, root

@@ -1,0 +1,176 @@
+#!/usr/bin/env python3
+"""Hostile calls of the C library between guard pages, each answer and each byte left behind as the independent model has it.
+Both sides ask libsodium for Ed25519, so what is compared is this library. Needs desk/build before.
+    hostile_calls.py [--seed S] [--seconds N] [--case N] [--planted]"""
+import functools
+import pathlib
+import sys
+import tempfile
+
+HOST = pathlib.Path(__file__).resolve().parents[1]
+sys.dont_write_bytecode = True
+sys.path[:0] = [str(HOST / "test"), str(HOST / "model")]
+import corpus
+import kes
+import sodium
+from library import HASH, MAKE, MOVE, READ_KEY, SIGN, VERIFY, Ended, Library
+from modelled import NAMES, Model, asked, show
+from mutate import edge, spoiled
+from planted import HOSTILE, PLANTED
+from rounds import Different, NoAnswer, main
+
+SIZES = [0, 1, 31, 32, 33, 127, 128, 129, kes.LONGEST - 1, kes.LONGEST, kes.LONGEST + 1, 8192]
+# key pairs that a case may grow: the model takes about 0.1 ms for each
+CHEAP, DEAR = 64, 2 ** (kes.TALLEST + 1)
+
+
+def small(draw):
+    return draw.choice([0, 1, 2, 3]), draw.choice([0, 1, 2, 3])
+
+
+def any_height(draw):
+    return draw.randrange(kes.TALLEST + 1), draw.randrange(kes.TALLEST + 1)
+
+
+def some_message(draw):
+    return draw.randbytes(draw.choice([draw.choice(SIZES), draw.randrange(64)]))
+
+
+def some_table(draw):
+    """An honest table, or any bytes behind a good header."""
+    if draw.random() < 0.7:
+        h1, h2 = small(draw)
+        return corpus.table(h1, h2, draw.randrange(4), draw.randrange(kes.steps(h1, h2)))
+    h1, h2 = any_height(draw)
+    return kes.header(h1, h2, draw.randrange(kes.steps(h1, h2))) + draw.randbytes(kes.table_size(h1, h2) - 8)
+
+
+def make(draw):
+    h1, h2 = small(draw) if draw.random() < 0.99 else any_height(draw)
+    return [MAKE, h1, h2, 0, [bytes([draw.randrange(4)]) * 32, draw.randbytes(kes.table_size(h1, h2)), b""]]
+
+
+def read_key(draw):
+    return [READ_KEY, 0, 0, 0, [some_table(draw), draw.randbytes(32), b""]]
+
+
+def move(draw):
+    """To a later step, often one that is near: the taller the tree, the nearer must it be for the move to be cheap."""
+    table = some_table(draw)
+    h1, h2, now = kes.read_header(table)
+    near = now + draw.randrange(1, 5)
+    far = draw.randrange(now, kes.steps(h1, h2))
+    return [MOVE, 0, 0, draw.choice([near, far]), [table, b"", b""]]
+
+
+def sign(draw):
+    table = some_table(draw)
+    return [SIGN, 0, 0, 0, [table, some_message(draw), draw.randbytes(kes.signature_size(*table[:2]))]]
+
+
+def verify(draw):
+    message, seed = some_message(draw), draw.randrange(4)
+    if draw.random() < 0.5:
+        h1, h2 = any_height(draw)
+        step = draw.randrange(kes.steps(h1, h2))
+        signature, key = corpus.chosen(draw, h1, h2, step, message)
+    else:
+        h1, h2 = small(draw)
+        step = draw.randrange(kes.steps(h1, h2))
+        signature, key = corpus.signature(h1, h2, seed, step, message), corpus.key(h1, h2, seed)
+    return [VERIFY, h1, h2, step, [key, message, signature]]
+
+
+def hashed(draw):
+    return [HASH, 0, 0, 0, [some_message(draw), draw.randbytes(32), b""]]
+
+
+CALLS = [make, read_key, move, move, sign, sign, verify, verify, verify, hashed]
+
+
+def header_spoiled(draw, request):
+    """A table's header with a field at an edge value; mostly with a length that still fits, so that the same bytes are read otherwise."""
+    table = request[4][0]
+    if request[0] not in (READ_KEY, MOVE, SIGN) or len(table) < 8:
+        return
+    h1, h2, step = table[0], table[1], kes.steps(min(table[0], kes.TALLEST), min(table[1], kes.TALLEST))
+    field = draw.randrange(4)
+    if field < 2:
+        heights = [h1, h2]
+        heights[field] = draw.choice([0, 1, 2, 3, kes.TALLEST, kes.TALLEST + 1, 255])
+        table = bytes(heights) + table[2:]
+        if max(heights) <= kes.TALLEST and draw.random() < 0.7:
+            size = kes.table_size(*heights)
+            table = table[:size] + draw.randbytes(max(0, size - len(table)))
+    elif field == 2:
+        table = table[:2] + draw.choice([b"\1\0", b"\0\1", b"\xff\xff"]) + table[4:]
+    else:
+        table = table[:4] + (edge(draw, step - 1, step) % 2**32).to_bytes(4, "little") + table[8:]
+    request[4][0] = table
+
+
+def number_spoiled(draw, request):
+    at = draw.choice([1, 2, 3])
+    found = kes.read_header(request[4][0]) if request[0] == MOVE else None
+    h1, h2, now = found or (min(request[1], kes.TALLEST), min(request[2], kes.TALLEST), request[3])
+    request[at] = edge(draw, now, kes.steps(h1, h2)) if at == 3 else edge(draw, request[at], kes.TALLEST + 1)
+
+
+def buffer_spoiled(draw, request):
+    at = draw.randrange(2 if request[0] in (MAKE, READ_KEY, HASH) else 1 if request[0] == MOVE else 3)
+    other = draw.choice([draw.choice(request[4]), some_table(draw)])
+    request[4][at] = spoiled(draw, request[4][at], other)[:8192]
+
+
+def spoil(draw, request):
+    draw.choice([number_spoiled, buffer_spoiled, buffer_spoiled, header_spoiled])(draw, request)
+
+
+def grown(request):
+    """How many key pairs a call grows at most."""
+    op, h1, h2, step, (first, *_) = request
+    found = kes.read_header(first)
+    if op == MAKE and max(h1, h2) <= kes.TALLEST:
+        return sum(asked(op, h1, h2, step, found))
+    if op == MOVE and found and found[2] < step < kes.steps(*found[:2]):
+        return sum(asked(op, h1, h2, step, found))
+    return 0
+
+
+def hostile(draw):
+    """A request, drawn again where it would grow too much: few may grow much."""
+    limit = DEAR if draw.random() < 0.001 else CHEAP
+    while True:
+        request = draw.choice(CALLS)(draw)
+        for _ in range(draw.choice([0, 0, 1, 1, 1, 2, 3])):
+            spoil(draw, request)
+        if grown(request) <= limit:
+            return request
+
+
+def told(outcome):
+    answer, calls, buffers = outcome
+    return f"answer {answer & 0xFFFFFFFF} count {answer >> 32} Ed25519 calls {calls} left " + " ".join(b.hex() or "-" for b in buffers)
+
+
+class Comparison:
+    """The library beside a model."""
+
+    def __init__(self, library, scheme=kes.Scheme):
+        self.library, self.model = library, Model(sodium, scheme)
+        self.case, self.show = hostile, show
+
+    def check(self, request):
+        try:
+            given = self.library.call(*request)
+        except (Ended, BrokenPipeError) as ended:
+            raise NoAnswer(f"{show(request)}\n{ended}")
+        expected = self.model.call(*request)
+        if given != expected:
+            raise Different(f"{show(request)}\nlibrary {told(given)}\nmodel   {told(expected)}")
+        return [f"{NAMES[request[0]]}, answer {given[0] & 0xFFFFFFFF}"]
+
+
+if __name__ == "__main__":
+    with tempfile.TemporaryDirectory() as folder:
+        main(__file__, functools.partial(Comparison, Library(folder)), PLANTED + HOSTILE)
