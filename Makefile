@@ -1,5 +1,5 @@
 # What there is to do here. README.md says what each is for.
-.PHONY: help demo test desk install bench clean
+.PHONY: help demo test desk install bench fuzz clean
 
 help:
 	@echo 'make demo    build everything for the desk and show a short day of it'
@@ -7,6 +7,7 @@ help:
 	@echo 'make desk    build/: the library and programs with real Ed25519 (ED25519=sodium or openssl)'
 	@echo 'make install puts library, header, journal and man pages under PREFIX (and DESTDIR)'
 	@echo 'make bench   race the hash against libsodium and C code that follows the RFC'\''s'
+	@echo 'make fuzz    hostile input for long, against the model and coverage-guided (SEED=, SECONDS=600)'
 	@echo 'make clean   remove build/ and target/'
 
 desk:
@@ -29,6 +30,10 @@ bench: desk
 	@host/need gcc libsodium-dev valgrind
 	@rt staticlib blake2b_race >build/obj/race.log || { cat build/obj/race.log; exit 1; }
 	@host/bench/run build/libkes.a target/staticlib/libblake2b_race.a build/libkes_sodium.a
+
+SECONDS ?= 600
+fuzz: desk
+	@host/fuzz/run '$(SECONDS)' '$(SEED)'
 
 clean:
 	rm -rf build target

@@ -15,14 +15,14 @@ uint32_t desk_ed25519_verify(const uint8_t public_key[32], const uint8_t *messag
 
 /* Ends the process where the library cannot answer: what is proved holds only of right answers.
    No abort, since a core file would keep the secret, and no exit, since no handler may run over a half-written table. */
-static void stop(const char *why)
+static inline void stop(const char *why)
 {
     fprintf(stderr, "ed25519: %s\n", why);
     _Exit(EXIT_FAILURE);
 }
 
 /* A pointer that any library takes, for an empty message too. */
-static const uint8_t *bytes_of(const uint8_t *message, size_t message_len)
+static inline const uint8_t *bytes_of(const uint8_t *message, size_t message_len)
 {
     static const uint8_t none[1] = {0};
     return message_len == 0 ? none : message;

@@ -1,0 +1,177 @@
+/* A fuzzer's target: a good call with the input laid over it, made as host/test/lent.h says, over both adapters.
+ * The fuzzer cannot see into the library. It sees due(), which says the number that document 01 wants, by kes.h's sizes. */
+#include <string.h>
+
+#include "../test/lent.h"
+#include "input.h"
+#include "kes.h"
+
+enum { H1 = 1, H2 = 2, STEPS = 8 };
+
+static const uint8_t message[] = "111122223333444412500";
+static uint8_t key[KES_KEY_SIZE], tables[STEPS][KES_TABLE_SIZE(H1, H2)], signatures[STEPS][KES_SIGNATURE_SIZE(H1, H2)];
+static struct request request;
+static struct outcome outcome;
+
+static void need(uint64_t answer)
+{
+    if (kes_number(answer) != KES_DONE)
+        wrong("a good call is refused");
+}
+
+int LLVMFuzzerInitialize(int *argc, char ***argv);
+int LLVMFuzzerTestOneInput(const uint8_t *data, size_t size);
+
+/* A key's table and signature at each of its steps. */
+int LLVMFuzzerInitialize(int *argc, char ***argv)
+{
+    uint8_t seed[KES_SEED_SIZE] = {0};
+    size_t i;
+    (void)argc, (void)argv;
+    lend_start();
+    need(kes_make(H1, H2, seed, sizeof seed, tables[0], sizeof tables[0]));
+    need(kes_read_key(tables[0], sizeof tables[0], key, sizeof key));
+    for (i = 0; i < STEPS; i++) {
+        if (i > 0) {
+            memcpy(tables[i], tables[i - 1], sizeof tables[i]);
+            need(kes_move(tables[i], sizeof tables[i], i));
+        }
+        need(kes_sign(tables[i], sizeof tables[i], message, sizeof message, signatures[i], sizeof signatures[i]));
+    }
+    return 0;
+}
+
+static void lay(size_t i, const void *bytes, size_t len)
+{
+    request.len[i] = len;
+    if (bytes != NULL)
+        memcpy(request.bytes[i], bytes, len);
+}
+
+/* A good call at a step of the key. */
+static void lay_good(int op, uint64_t step)
+{
+    memset(&request, 0, sizeof request);
+    request.op = op, request.h1 = H1, request.h2 = H2, request.step = op == MOVE ? step + 1 : step;
+    if (op == READ_KEY || op == MOVE || op == SIGN)
+        lay(0, tables[step], sizeof tables[step]);
+    if (op == MAKE)
+        lay(0, NULL, KES_SEED_SIZE), lay(1, NULL, sizeof tables[step]);
+    if (op == READ_KEY || op == HASH)
+        lay(1, NULL, KES_KEY_SIZE);
+    if (op == VERIFY)
+        lay(0, key, sizeof key), lay(2, signatures[step], sizeof signatures[step]);
+    if (op == SIGN || op == VERIFY)
+        lay(1, message, sizeof message);
+    if (op == SIGN)
+        lay(2, NULL, sizeof signatures[step]);
+}
+
+/* A length somewhat off, or beside the longest message. */
+static size_t off(size_t len, uint8_t by)
+{
+    size_t longer = len + by;
+    if (by >= 128)
+        return KES_MESSAGE_MAX + by % 4 - 1;
+    return by == 0 ? len : longer < 64 ? 0 : longer - 64;
+}
+
+static uint64_t step_of(const uint8_t *table)
+{
+    return table[4] | (uint64_t)table[5] << 8 | (uint64_t)table[6] << 16 | (uint64_t)table[7] << 24;
+}
+
+static int well_formed(const uint8_t *table, size_t len)
+{
+    return len >= 8 && KES_HEIGHTS_FIT(table[0], table[1]) && table[2] == 0 && table[3] == 0 && len == kes_table_size(table[0], table[1])
+        && step_of(table) < kes_steps(table[0], table[1]);
+}
+
+static uint32_t due_to_make(const struct request *r)
+{
+    if (!KES_HEIGHTS_FIT(r->h1, r->h2))
+        return KES_HEIGHT;
+    if (r->len[0] != KES_SEED_SIZE)
+        return KES_SEED_OR_KEY;
+    return r->len[1] != kes_table_size(r->h1, r->h2) ? KES_LENGTH : KES_DONE;
+}
+
+static uint32_t due_to_move(const struct request *r)
+{
+    const uint8_t *table = r->bytes[0];
+    if (r->step >= kes_steps(table[0], table[1]))
+        return KES_PAST_END;
+    return r->step <= step_of(table) ? KES_NOT_LATER : KES_DONE;
+}
+
+static uint32_t due_to_sign(const struct request *r)
+{
+    const uint8_t *table = r->bytes[0];
+    if (r->len[1] > KES_MESSAGE_MAX)
+        return KES_TOO_LONG;
+    return r->len[2] != kes_signature_size(table[0], table[1]) ? KES_LENGTH : KES_DONE;
+}
+
+static uint32_t due_to_hash(const struct request *r)
+{
+    if (r->len[0] > KES_MESSAGE_MAX)
+        return KES_TOO_LONG;
+    return r->len[1] != KES_DIGEST_SIZE ? KES_LENGTH : KES_DONE;
+}
+
+/* Only what an honest signer signed is accepted. */
+static int honest(const struct request *r)
+{
+    return r->h1 == H1 && r->h2 == H2 && r->len[1] == sizeof message && memcmp(r->bytes[1], message, sizeof message) == 0
+        && memcmp(r->bytes[0], key, sizeof key) == 0 && memcmp(r->bytes[2], signatures[r->step], sizeof signatures[0]) == 0;
+}
+
+static uint32_t due_to_verify(const struct request *r)
+{
+    if (!KES_HEIGHTS_FIT(r->h1, r->h2))
+        return KES_HEIGHT;
+    if (r->len[0] != KES_KEY_SIZE)
+        return KES_SEED_OR_KEY;
+    if (r->len[2] != kes_signature_size(r->h1, r->h2))
+        return KES_LENGTH;
+    if (r->len[1] > KES_MESSAGE_MAX)
+        return KES_TOO_LONG;
+    if (r->step >= kes_steps(r->h1, r->h2))
+        return KES_PAST_END;
+    return honest(r) ? KES_DONE : KES_NOT_ACCEPTED;
+}
+
+/* The number that document 01's table has for a call. */
+static uint32_t due(const struct request *r)
+{
+    if (r->op == MAKE)
+        return due_to_make(r);
+    if (r->op == VERIFY)
+        return due_to_verify(r);
+    if (r->op == HASH)
+        return due_to_hash(r);
+    if (!well_formed(r->bytes[0], r->len[0]))
+        return KES_TABLE;
+    if (r->op == READ_KEY)
+        return r->len[1] != KES_KEY_SIZE ? KES_LENGTH : KES_DONE;
+    return r->op == MOVE ? due_to_move(r) : due_to_sign(r);
+}
+
+int LLVMFuzzerTestOneInput(const uint8_t *data, size_t size)
+{
+    struct input in = {data, size};
+    size_t i;
+    int op = next(&in) % CALLS;
+    lay_good(op, next(&in) % (op == MOVE ? STEPS - 1 : STEPS));
+    request.h1 ^= wide(&in), request.h2 ^= wide(&in), request.step ^= wide(&in);
+    for (i = 0; i < LENT; i++)
+        request.len[i] = off(request.len[i], next(&in));
+    while (in.left > 0) {
+        i = next(&in) % LENT;
+        patch(&in, request.bytes[i], request.len[i]);
+    }
+    lend(&request, &outcome);
+    if (kes_number(outcome.answer) != due(&request))
+        wrong("the library answers another number than is due");
+    return 0;
+}
