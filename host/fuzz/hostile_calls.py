@@ -13,14 +13,14 @@ sys.path[:0] = [str(HOST / "test"), str(HOST / "model")]
 import corpus
 import kes
 import sodium
-from library import HASH, MAKE, MOVE, READ_KEY, SIGN, VERIFY, Ended, Library
+from library import HASH, MAKE, MOST, MOVE, READ_KEY, SIGN, VERIFY, Ended, Library
 from modelled import NAMES, Model, asked, show
 from mutate import edge, spoiled
 from planted import HOSTILE, PLANTED
 from rounds import Different, NoAnswer, main
 
-SIZES = [0, 1, 31, 32, 33, 127, 128, 129, kes.LONGEST - 1, kes.LONGEST, kes.LONGEST + 1, 8192]
-# key pairs that a case may grow: the model takes about 0.1 ms for each
+SIZES = [0, 1, 31, 32, 33, 127, 128, 129, kes.LONGEST - 1, kes.LONGEST, kes.LONGEST + 1, MOST]
+# key pairs that a case may grow, at 0.1 ms or so each
 CHEAP, DEAR = 64, 2 ** (kes.TALLEST + 1)
 
 
@@ -37,12 +37,15 @@ def some_message(draw):
 
 
 def some_table(draw):
-    """An honest table, or any bytes behind a good header."""
-    if draw.random() < 0.7:
-        h1, h2 = small(draw)
-        return corpus.table(h1, h2, draw.randrange(4), draw.randrange(kes.steps(h1, h2)))
-    h1, h2 = any_height(draw)
-    return kes.header(h1, h2, draw.randrange(kes.steps(h1, h2))) + draw.randbytes(kes.table_size(h1, h2) - 8)
+    """An honest table, one whose header says another step, or any bytes behind a good header."""
+    way = draw.random()
+    h1, h2 = small(draw) if way < 0.7 else any_height(draw)
+    step, seed = draw.randrange(kes.steps(h1, h2)), draw.randrange(4)
+    if way < 0.6:
+        return corpus.table(h1, h2, seed, step)
+    if way < 0.7:
+        return kes.header(h1, h2, step) + corpus.table(h1, h2, seed, draw.randrange(kes.steps(h1, h2)))[8:]
+    return kes.header(h1, h2, step) + draw.randbytes(kes.table_size(h1, h2) - 8)
 
 
 def make(draw):
@@ -68,16 +71,22 @@ def sign(draw):
     return [SIGN, 0, 0, 0, [table, some_message(draw), draw.randbytes(kes.signature_size(*table[:2]))]]
 
 
+def signed(draw, step, message, h1, h2):
+    """An honest signature and its key; at times with the parent's half of another step."""
+    seed = draw.randrange(4)
+    signature = corpus.signature(h1, h2, seed, step, message)
+    if draw.random() < 0.2:
+        half = kes.sum_size(h1)
+        signature = corpus.signature(h1, h2, seed, draw.randrange(kes.steps(h1, h2)), b"")[:half] + signature[half:]
+    return signature, corpus.key(h1, h2, seed)
+
+
 def verify(draw):
-    message, seed = some_message(draw), draw.randrange(4)
-    if draw.random() < 0.5:
-        h1, h2 = any_height(draw)
-        step = draw.randrange(kes.steps(h1, h2))
-        signature, key = corpus.chosen(draw, h1, h2, step, message)
-    else:
-        h1, h2 = small(draw)
-        step = draw.randrange(kes.steps(h1, h2))
-        signature, key = corpus.signature(h1, h2, seed, step, message), corpus.key(h1, h2, seed)
+    message = some_message(draw)
+    h1, h2 = heights = draw.choice([small, any_height])(draw)
+    step = draw.randrange(kes.steps(h1, h2))
+    honest = max(heights) <= 3 and draw.random() < 0.9
+    signature, key = signed(draw, step, message, h1, h2) if honest else corpus.chosen(draw, h1, h2, step, message)
     return [VERIFY, h1, h2, step, [key, message, signature]]
 
 
@@ -85,7 +94,8 @@ def hashed(draw):
     return [HASH, 0, 0, 0, [some_message(draw), draw.randbytes(32), b""]]
 
 
-CALLS = [make, read_key, move, move, sign, sign, verify, verify, verify, hashed]
+# in the order of their numbers, and how often each is drawn
+CALLS, WEIGHTS = [make, read_key, move, sign, verify, hashed], [1, 1, 2, 2, 3, 1]
 
 
 def header_spoiled(draw, request):
@@ -118,8 +128,7 @@ def number_spoiled(draw, request):
 
 def buffer_spoiled(draw, request):
     at = draw.randrange(2 if request[0] in (MAKE, READ_KEY, HASH) else 1 if request[0] == MOVE else 3)
-    other = draw.choice([draw.choice(request[4]), some_table(draw)])
-    request[4][at] = spoiled(draw, request[4][at], other)[:8192]
+    request[4][at] = spoiled(draw, request[4][at], lambda: CALLS[request[0]](draw)[4][at])[:MOST]
 
 
 def spoil(draw, request):
@@ -141,7 +150,8 @@ def hostile(draw):
     """A request, drawn again where it would grow too much: few may grow much."""
     limit = DEAR if draw.random() < 0.001 else CHEAP
     while True:
-        request = draw.choice(CALLS)(draw)
+        (call,) = draw.choices(CALLS, WEIGHTS)
+        request = call(draw)
         for _ in range(draw.choice([0, 0, 1, 1, 1, 2, 3])):
             spoil(draw, request)
         if grown(request) <= limit:

@@ -71,7 +71,7 @@ def hostile(draw):
     data = chosen(draw) if draw.random() < 0.3 else damaged(draw, DAYS)
     for _ in range(draw.choice([0, 0, 1, 1, 2, 3])):
         way = draw.choice([spoiled, inserted, numeral_set, numeral_set, range_moved])
-        data = way(draw, data, damaged(draw, DAYS))
+        data = way(draw, data, lambda: damaged(draw, DAYS))
     return long(draw, data) if draw.random() < 0.005 else data
 
 

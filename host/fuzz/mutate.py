@@ -1,8 +1,9 @@
-"""Ways to spoil bytes and numbers, drawn from a random.Random."""
+"""Ways to spoil bytes and numbers, drawn from a random.Random. Each takes the bytes, and a function that draws others of their kind."""
 import ed25519
 
-# y of 0 and 1 and of P and P + 1, with both signs, and the points of order 8: every encoding of a point of small order, and more.
+
 def small_order():
+    """The eight points of small order, and y of 0, 1, P - 1, P and P + 1 with both signs: encodings that are not all reduced, or no points."""
     eighth = next(point for point in (ed25519.decoded(bytes([y]) + bytes(31)) for y in range(2, 99)) if point is not None)
     eighth = ed25519.times(ed25519.L, eighth)
     points = [ed25519.encoded(ed25519.times(n, eighth)) for n in range(8)]
@@ -34,13 +35,13 @@ def truncated(draw, data, other):
 
 
 def extended(draw, data, other):
-    return data + draw.choice([b"\0", b"\xff", other, draw.randbytes(draw.randrange(1, 100))])
+    return data + draw.choice([b"\0", b"\xff", other(), draw.randbytes(draw.randrange(1, 100))])
 
 
 def spliced(draw, data, other):
     """The beginning of one and the end of the other, the length kept or not."""
-    at = draw.randrange(len(data) + 1)
-    return data[:at] + (other[at:] if draw.random() < 0.7 else other[draw.randrange(len(other) + 1) :])
+    at, rest = draw.randrange(len(data) + 1), other()
+    return data[:at] + (rest[at:] if draw.random() < 0.7 else rest[draw.randrange(len(rest) + 1) :])
 
 
 def field_set(draw, data, other):
@@ -61,8 +62,8 @@ WAYS = [flipped, flipped, byte_set, byte_set, field_set, field_set, field_set, t
 
 
 def spoiled(draw, data, other):
-    """data after one spoiling; other is what a splice may take from."""
-    return draw.choice(WAYS)(draw, data, other) if data else draw.choice([b"\0", other, draw.randbytes(32)])
+    """data after one spoiling."""
+    return draw.choice(WAYS)(draw, data, other) if data else draw.choice([b"\0", other(), draw.randbytes(32)])
 
 
 def edge(draw, number, end):

@@ -5,6 +5,8 @@ import subprocess
 
 ROOT = pathlib.Path(__file__).resolve().parents[2]
 MAKE, READ_KEY, MOVE, SIGN, VERIFY, HASH = range(6)
+# of lent.h: the longest buffer that the driver takes
+MOST = 8192
 BEHIND = {"sodium": "-lsodium", "openssl": "-lcrypto"}
 COUNTED = ["desk_ed25519_public_key", "desk_ed25519_sign", "desk_ed25519_verify"]
 STRICT = ["-std=c99", "-O1", "-Wall", "-Wextra", "-Wconversion", "-pedantic", "-Werror"]
