@@ -49,7 +49,7 @@ def some_table(draw):
 
 
 def make(draw):
-    h1, h2 = small(draw) if draw.random() < 0.99 else any_height(draw)
+    h1, h2 = small(draw) if draw.random() < 0.9 else any_height(draw)
     return [MAKE, h1, h2, 0, [bytes([draw.randrange(4)]) * 32, draw.randbytes(kes.table_size(h1, h2)), b""]]
 
 
@@ -94,29 +94,33 @@ def hashed(draw):
     return [HASH, 0, 0, 0, [some_message(draw), draw.randbytes(32), b""]]
 
 
-# in the order of their numbers, and how often each is drawn
-CALLS, WEIGHTS = [make, read_key, move, sign, verify, hashed], [1, 1, 2, 2, 3, 1]
+# in the order of their numbers: the calls, how often each is drawn, and how many buffers it is lent
+CALLS, WEIGHTS, BUFFERS = [make, read_key, move, sign, verify, hashed], [1, 1, 2, 2, 3, 1], [2, 2, 1, 3, 3, 2]
+
+
+def heights_spoiled(draw, table):
+    """Another height in the header; mostly with a length that fits it, so that the same bytes are read otherwise."""
+    heights = list(table[:2])
+    heights[draw.randrange(2)] = draw.choice([0, 1, 2, 3, kes.TALLEST, kes.TALLEST + 1, 255])
+    table = bytes(heights) + table[2:]
+    if max(heights) > kes.TALLEST or draw.random() < 0.3:
+        return table
+    size = kes.table_size(*heights)
+    return table[:size] + draw.randbytes(max(0, size - len(table)))
 
 
 def header_spoiled(draw, request):
-    """A table's header with a field at an edge value; mostly with a length that still fits, so that the same bytes are read otherwise."""
+    """A field of a table's header at an edge value."""
     table = request[4][0]
     if request[0] not in (READ_KEY, MOVE, SIGN) or len(table) < 8:
         return
-    h1, h2, step = table[0], table[1], kes.steps(min(table[0], kes.TALLEST), min(table[1], kes.TALLEST))
-    field = draw.randrange(4)
-    if field < 2:
-        heights = [h1, h2]
-        heights[field] = draw.choice([0, 1, 2, 3, kes.TALLEST, kes.TALLEST + 1, 255])
-        table = bytes(heights) + table[2:]
-        if max(heights) <= kes.TALLEST and draw.random() < 0.7:
-            size = kes.table_size(*heights)
-            table = table[:size] + draw.randbytes(max(0, size - len(table)))
-    elif field == 2:
-        table = table[:2] + draw.choice([b"\1\0", b"\0\1", b"\xff\xff"]) + table[4:]
-    else:
-        table = table[:4] + (edge(draw, step - 1, step) % 2**32).to_bytes(4, "little") + table[8:]
-    request[4][0] = table
+    end = kes.steps(*[min(h, kes.TALLEST) for h in table[:2]])
+    step = edge(draw, int.from_bytes(table[4:8], "little"), end) % 2**32
+    request[4][0] = draw.choice([
+        heights_spoiled(draw, table), heights_spoiled(draw, table),
+        table[:2] + draw.choice([b"\1\0", b"\0\1", b"\xff\xff"]) + table[4:],
+        table[:4] + step.to_bytes(4, "little") + table[8:],
+    ])
 
 
 def number_spoiled(draw, request):
@@ -127,7 +131,7 @@ def number_spoiled(draw, request):
 
 
 def buffer_spoiled(draw, request):
-    at = draw.randrange(2 if request[0] in (MAKE, READ_KEY, HASH) else 1 if request[0] == MOVE else 3)
+    at = draw.randrange(BUFFERS[request[0]])
     request[4][at] = spoiled(draw, request[4][at], lambda: CALLS[request[0]](draw)[4][at])[:MOST]
 
 
@@ -140,15 +144,15 @@ def grown(request):
     op, h1, h2, step, (first, *_) = request
     found = kes.read_header(first)
     if op == MAKE and max(h1, h2) <= kes.TALLEST:
-        return sum(asked(op, h1, h2, step, found))
+        return asked(op, h1, h2, step, found)[0]
     if op == MOVE and found and found[2] < step < kes.steps(*found[:2]):
-        return sum(asked(op, h1, h2, step, found))
+        return asked(op, h1, h2, step, found)[0]
     return 0
 
 
 def hostile(draw):
     """A request, drawn again where it would grow too much: few may grow much."""
-    limit = DEAR if draw.random() < 0.001 else CHEAP
+    limit = DEAR if draw.random() < 0.01 else CHEAP
     while True:
         (call,) = draw.choices(CALLS, WEIGHTS)
         request = call(draw)
