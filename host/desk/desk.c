@@ -262,7 +262,7 @@ static void show_done(const struct record *record)
 void desk_top_up(const char *card, uint64_t amount)
 {
     struct record record = {.step = step_now(), .serial = desk.serial + 1, .amount = amount};
-    if (record.serial > UINT32_MAX)
+    if (record.serial > SERIAL_MOST)
         refuse("the journal is full");
     memcpy(record.card, card, CARD_DIGITS);
     record.signature_len = kes_signature_size(height_1(), height_2());

@@ -48,6 +48,13 @@ size_t record_message(char message[MESSAGE_MOST], const struct record *record)
     return (size_t)snprintf(message, MESSAGE_MOST, "%s%" PRIu64 "%" PRIu64, record->card, record->serial, record->amount);
 }
 
+/* The signed digits run together, so a signature does not tell where card, serial and amount begin. */
+static int in_range(const struct record *record)
+{
+    return strlen(record->card) == CARD_DIGITS && record->serial >= 1 && record->serial <= SERIAL_MOST
+        && record->amount >= 1 && record->amount <= AMOUNT_MOST;
+}
+
 /* Reads loosely, then asks whether the record that was read writes this very line. */
 int record_read(struct record *record, const char *line, size_t len)
 {
@@ -59,7 +66,7 @@ int record_read(struct record *record, const char *line, size_t len)
     text[len] = 0;
     if (sscanf(text, "%8" SCNu64 " %16[0-9] %10" SCNu64 " %7" SCNu64 " %n", &record->step, record->card, &record->serial, &record->amount, &hex) != 4)
         return 0;
-    if ((size_t)hex + 2 * record->signature_len + 1 != len)
+    if (!in_range(record) || (size_t)hex + 2 * record->signature_len + 1 != len)
         return 0;
     get_hex(record->signature, record->signature_len, text + hex);
     return record_line(again, record) == len && memcmp(again, line, len) == 0;

@@ -5,6 +5,7 @@
 #include "kes.h"
 
 enum { CARD_DIGITS = 16, AMOUNT_MOST = 2000000, LINE_MOST = 2048, HEADER_MOST = 75, MESSAGE_MOST = 64 };
+#define SERIAL_MOST UINT32_MAX
 
 struct record {
     uint64_t step, serial, amount;

@@ -5,7 +5,7 @@
 #include "../desk/record.h"
 #include "input.h"
 
-static const uint64_t STEP_MOST = 99999999, SERIAL_MOST = 4294967295;
+static const uint64_t STEP_MOST = 99999999;
 
 static int is_digit(char c)
 {
