@@ -13,6 +13,7 @@ sys.dont_write_bytecode = True
 sys.path.insert(0, str(ROOT / "host" / "model"))
 import ed25519
 import kes
+from desk import Desk
 from journal import Judge
 
 SCHEME = kes.Scheme(ed25519)
@@ -23,17 +24,13 @@ class Day:
     """A key, its header line, and the lines of its day: serials from 1 on, each signed at a step that never falls."""
 
     def __init__(self, draw, h1, h2, lines, scheme=SCHEME):
-        table, key, signature = bytearray(kes.table_size(h1, h2)), bytearray(32), bytearray(kes.signature_size(h1, h2))
-        scheme.make(h1, h2, bytearray(draw.randbytes(32)), table)
-        scheme.read_key(table, key)
-        self.header = b"kes\t%d\t%d\t%s" % (h1, h2, key.hex().encode())
+        desk = Desk(scheme, h1, h2, draw.randbytes(32))
+        self.header = desk.header
         self.lines = []
         for serial in range(1, lines + 1):
-            scheme.move(table, serial * kes.steps(h1, h2) // (lines + 1))
-            card, amount = b"%016d" % draw.randrange(10**16), b"%d" % draw.randrange(1, 2_000_001)
-            scheme.sign(table, card + b"%d" % serial + amount, signature)
-            fields = [b"%d" % kes.read_header(table)[2], card, b"%d" % serial, amount, signature.hex().encode()]
-            self.lines.append(b"\t".join(fields))
+            step = serial * kes.steps(h1, h2) // (lines + 1)
+            card, amount = draw.randrange(10**16), draw.randrange(1, 2_000_001)
+            self.lines.append(desk.line(step, b"%016d" % card, serial, amount))
 
 
 def field_changed(draw, line):
