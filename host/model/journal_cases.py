@@ -3,8 +3,9 @@
 With --check it writes nothing and says whether the files are those.
 
 Each group below is a sentence of document 01, "The top-up journal", and each case a name, the letters that the sentence gives its lines,
-and the journal. The letters are the author's reading, the output is the model's; where the two differ nothing is written.
-Not run: that reading ends after line 4,294,967,295."""
+and the journal. The letters are the author's reading, the output is the model's: where the two differ, or where no case notices one of the
+misreadings of misread.py, nothing is written. Not run: that reading ends after line 4,294,967,295. A line of 2,048 bytes is M like one of
+2,049, since no record is longer than 2,030."""
 import pathlib
 import re
 import sys
@@ -13,9 +14,11 @@ import standin
 from desk import Desk
 from journal import LONGEST_LINE, Judge
 from kes import Scheme, steps
+from misread import MISREADINGS
 
 FOLDER = pathlib.Path(__file__).resolve().parents[2] / "crates" / "journal_cases"
 SCHEME = Scheme(standin)
+# desks whose keys have 1, 8, 4,096 and 2^24 steps
 ONE, EIGHT, SHORT, TALLEST = (Desk(SCHEME, h1, h2, range(32)) for h1, h2 in ((0, 0), (1, 2), (6, 6), (12, 12)))
 STEP, CARD, SERIAL, AMOUNT, SIGNATURE = range(5)
 GOOD = ONE.line()
@@ -41,13 +44,13 @@ def changed(line, at, field):
     return b"\t".join(fields)
 
 
-def flipped(digit):
-    """The hex of a signature with one digit changed."""
-    return lambda text: text[:digit] + (b"0" if text[digit : digit + 1] != b"0" else b"1") + text[digit + 1 :]
-
-
 def put(at, byte):
     return lambda text: text[:at] + byte + text[at + 1 :]
+
+
+def flipped(at):
+    """A digit of hex changed."""
+    return lambda text: put(at, b"1" if text[at : at + 1] == b"0" else b"0")(text)
 
 
 def lines_of_text():
@@ -118,7 +121,7 @@ def numbers():
     yield "leading-zero-serial-and-amount", "MMG", under(ONE, ONE.line(serial=b"01"), ONE.line(amount=b"02500"), GOOD)
     yield "leading-zero-height", "H", below(b"kes\t00\t0\t" + ONE.key)
     yield "card-leading-zeros", "GG", under(ONE, ONE.line(card=b"0000222233334444"), ONE.line(serial=2, card=b"0" * 16))
-    yield "signs-and-blanks", "MMMMG", under(ONE, ONE.line(b"-0", at=0), ONE.line(serial=b"+1"), ONE.line(serial=b" 1"), ONE.line(amount=b"2500 "), GOOD)
+    yield "signs-and-blanks", "MMMG", under(ONE, ONE.line(b"-0", at=0), ONE.line(serial=b"+1"), ONE.line(amount=b" 2500"), GOOD)
     yield "number-no-digit", "MMMG", under(ONE, ONE.line(b":", at=0), ONE.line(serial=b"1/"), ONE.line(amount=b"25:0"), GOOD)
     yield "step-0-past-32-and-64-bits", "MMG", under(ONE, ONE.line(2**32, at=0), ONE.line(2**64, at=0), GOOD)
     yield "step-1500-digits", "MG", under(ONE, ONE.line(b"1" + b"0" * 1499, at=0), GOOD)
@@ -185,7 +188,8 @@ def not_accepted():
 def first_that_applies():
     """The first that applies, in this order."""
     good, forged = EIGHT.line(3), changed(EIGHT.line(3, serial=2), AMOUNT, b"1")
-    yield "m-before-o-s-b", "GMMM", under(EIGHT, good, EIGHT.line(2, serial=2, amount=0), EIGHT.line(3, serial=3, amount=0), changed(forged, AMOUNT, b"0"))
+    ill = EIGHT.line(2, serial=2, amount=0), EIGHT.line(3, serial=3, amount=0), changed(forged, AMOUNT, b"0")
+    yield "m-before-o-s-b", "GMMM", under(EIGHT, good, *ill)
     yield "o-before-s-b", "GOO", under(EIGHT, good, EIGHT.line(2, serial=3), changed(forged, STEP, b"2"))
     yield "s-before-b", "GS", under(EIGHT, good, changed(forged, SERIAL, b"3"))
 
@@ -204,7 +208,8 @@ def wrong_headers():
 def totals():
     """Otherwise the last line is `total`, the count of good lines, the sum of their cents, tabs between."""
     yield "total-of-good-lines", "GGG", under(ONE, *(ONE.line(serial=n, amount=2_000_000) for n in (1, 2, 3)))
-    yield "total-without-bad-lines", "GBSM", under(ONE, GOOD, changed(ONE.line(serial=2), AMOUNT, b"9"), ONE.line(serial=3), ONE.line(serial=2, amount=0))
+    bad = changed(ONE.line(serial=2), AMOUNT, b"9"), ONE.line(serial=3), ONE.line(serial=2, amount=0)
+    yield "total-without-bad-lines", "GBSM", under(ONE, GOOD, *bad)
 
 
 def example():
@@ -216,29 +221,41 @@ SENTENCES = [
     lines_of_text, headers, short_headers, other_lines, numbers, hexes, messages, letters, malformed, steps_below, other_serials,
     not_accepted, first_that_applies, wrong_headers, totals, example,
 ]
+JUDGE = Judge(SCHEME)
+CASES = [case for sentence in SENTENCES for case in sentence()]
+
+
+def found(output):
+    return "".join(re.findall(r"^\d+\t([A-Z])$", output.decode(), re.M))
 
 
 def made():
-    """The files of the crate, and the letters that occur in them."""
-    judge, names, wrote, seen, files = Judge(SCHEME), [], b"", set(), {}
-    for name, read, data in (case for sentence in SENTENCES for case in sentence()):
-        output = judge.output(data)
-        found = "".join(re.findall(r"^\d+\t([A-Z])$", output.decode(), re.M))
-        if found != read:
-            sys.exit(f"journal cases: {name} is {read} as read and {found} by the model")
-        files[f"data/{name}"], seen = data, seen | set(found)
-        names.append(name)
-        wrote += b"== %s\n%s" % (name.encode(), output)
-    assert len(set(names)) == len(names) and seen == set("HMOSBG")
-    return {**files, "args": ended(*(name.encode() for name in names)), "stdout": wrote}
+    """The files of the crate."""
+    files = {f"data/{name}": data for name, _, data in CASES}
+    files["args"] = ended(*(name.encode() for name, _, _ in CASES))
+    files["stdout"] = b"".join(b"== %s\n%s" % (name.encode(), JUDGE.output(data)) for name, _, data in CASES)
+    return files
 
 
 def on_disk():
-    return {str(path.relative_to(FOLDER)): path.read_bytes() for path in FOLDER.glob("data/*")} | {
-        name: (FOLDER / name).read_bytes() for name in ("args", "stdout")}
+    return {str(path.relative_to(FOLDER)): path.read_bytes() for path in [*FOLDER.glob("data/*"), FOLDER / "args", FOLDER / "stdout"]}
+
+
+def sound():
+    """Each case has a name of its own and the letters that its author read, every letter occurs, and each misreading is noticed."""
+    for name, letters_read, data in CASES:
+        if found(JUDGE.output(data)) != letters_read:
+            sys.exit(f"journal cases: {name} is {letters_read} as read and {found(JUDGE.output(data))} by the model")
+    assert len({name for name, _, _ in CASES}) == len(CASES)
+    assert {letter for _, letters_read, _ in CASES for letter in letters_read} == set("HMOSBG")
+    for words, misreading in MISREADINGS.items():
+        with misreading:
+            if all(found(JUDGE.output(data)) == letters_read for _, letters_read, data in CASES):
+                sys.exit(f"journal cases: none notices this misreading: {words}")
 
 
 def main():
+    sound()
     files = made()
     if sys.argv[1:] != ["--check"]:
         (FOLDER / "data").mkdir(exist_ok=True)
@@ -249,7 +266,7 @@ def main():
     elif on_disk() != files:
         sys.exit("crates/journal_cases has not the data, args and stdout that host/model/journal_cases.py writes")
     else:
-        print(f"journal cases: {len(files) - 2} journals and their output are those of the model")
+        print(f"journal cases: {len(CASES)} journals and their output are those of the model; {len(MISREADINGS)} planted misreadings are noticed")
 
 
 main()

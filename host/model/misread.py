@@ -1,0 +1,93 @@
+"""Misreadings of document 01's "The top-up journal", each planted in the model, so that cases can show that they notice it."""
+import operator
+import re
+from unittest.mock import patch
+
+import journal
+
+
+def planted(name, wrong):
+    """The model with one function replaced; wrong gets the right one, and then its arguments."""
+    right = getattr(journal, name)
+    return patch.object(journal, name, lambda *given: wrong(right, *given))
+
+
+def made_over(name, change):
+    """The model with a function that gets its text changed."""
+    return planted(name, lambda right, text, *rest: right(text if text is None else change(text), *rest))
+
+
+def limits(limit, more_low, more_high):
+    """The numbers that have this upper limit get others."""
+    def wrong(right, text, low, high):
+        return right(text, low + more_low, high + more_high) if high == limit else right(text, low, high)
+    return planted("number", wrong)
+
+
+def wrapped(bits):
+    return made_over("number", lambda text: b"%d" % (int(text) % 2**bits) if re.fullmatch(rb"[1-9][0-9]*", text) else text)
+
+
+def card(change):
+    """The second field of a line made over."""
+    return made_over("record", lambda line: re.sub(rb"(?<=\t)[0-9]*", lambda field: change(field[0]), line, count=1))
+
+
+def letters(order="OSB", below=operator.lt, follows=lambda serial, last: serial == last + 1):
+    """The tests of a well-formed line in this order."""
+    def letter(judge, head, found, last_step, last_serial):
+        if found is None:
+            return "M"
+        h1, h2, key = head
+        step, serial, _, message, signature = found
+        refused = judge.verify(h1, h2, key, step, message, signature) != journal.DONE
+        fails = {"O": below(step, last_step), "S": not follows(serial, last_serial), "B": refused}
+        return next((case for case in order if fails[case]), "G")
+    return patch.object(journal.Judge, "letter", letter)
+
+
+MISREADINGS = {
+    "height up to 13": limits(12, 0, 1),
+    "height up to 11": limits(12, 0, -1),
+    "step up to T": limits(7, 0, 1),
+    "step up to T - 2": limits(7, 0, -1),
+    "serial up to 2^32": limits(2**32 - 1, 0, 1),
+    "serial up to 2^32 - 2": limits(2**32 - 1, 0, -1),
+    "serial from 0": limits(2**32 - 1, -1, 0),
+    "serial from 2": limits(2**32 - 1, 1, 0),
+    "amount up to 2000001": limits(2_000_000, 0, 1),
+    "amount up to 1999999": limits(2_000_000, 0, -1),
+    "amount from 0": limits(2_000_000, -1, 0),
+    "amount from 2": limits(2_000_000, 1, 0),
+    "numbers wrap at 32 bits": wrapped(32),
+    "numbers wrap at 64 bits": wrapped(64),
+    "leading zeros pass": made_over("number", lambda text: text.lstrip(b"0") or text[:1]),
+    "a sign passes": made_over("number", lambda text: text.lstrip(b"+-")),
+    "blanks around a number pass": made_over("number", bytes.strip),
+    "an empty number is 0": made_over("number", lambda text: text or b"0"),
+    "upper-case hex passes": made_over("unhex", bytes.lower),
+    "short hex is filled": planted("unhex", lambda right, text, size: right(text.ljust(2 * size, b"0"), size)),
+    "long hex is cut": planted("unhex", lambda right, text, size: right(text[: 2 * size], size)),
+    "a short card is filled": card(lambda digits: digits.rjust(16, b"0")),
+    "a long card is cut": card(lambda digits: digits[:16]),
+    "a CR before LF is dropped": made_over("cut_lines", lambda data: data.replace(b"\r\n", b"\n")),
+    "an unended line counts": made_over("cut_lines", lambda data: re.sub(rb"(?<=[^\n])\Z", b"\n", data)),
+    "empty lines are skipped": made_over("cut_lines", lambda data: re.sub(rb"\n+", b"\n", data.lstrip(b"\n"))),
+    "an over-long line is several": made_over("cut_lines", lambda data: re.sub(rb"([^\n]{2047})(?=[^\n])", rb"\1\n", data)),
+    "what follows 2048 bytes is a line": made_over("cut_lines", lambda data: re.sub(rb"(?m)^[^\n]{2048}(?=[^\n])", b"", data)),
+    "fields after the fifth are ignored": made_over("record", lambda line: b"\t".join(line.split(b"\t")[:5])),
+    "fields of line 1 after the fourth are ignored": made_over("header", lambda line: b"\t".join(line.split(b"\t")[:4])),
+    "tabs around and beside each other are one": made_over("record", lambda line: re.sub(rb"\t+", b"\t", line.strip(b"\t"))),
+    "blanks part fields": made_over("record", lambda line: line.replace(b" ", b"\t")),
+    "KES is kes": made_over("header", lambda line: re.sub(rb"\AKES\b", b"kes", line)),
+    "the short header means heights 0 and 0": patch.object(journal, "SHORT_HEIGHTS", (0, 0)),
+    "S before O": letters("SOB"),
+    "B before S": letters("OBS"),
+    "B before O": letters("BOS"),
+    "no O": letters("SB"),
+    "no S": letters("OB"),
+    "no B": letters("OS"),
+    "the same step is below": letters(below=operator.le),
+    "a serial need only rise": letters(follows=operator.gt),
+    "the first serial is any": letters(follows=lambda serial, last: last == 0 or serial == last + 1),
+}
