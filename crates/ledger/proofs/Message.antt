@@ -12,11 +12,12 @@ use Rattle.text.specs.Numerals.{numberIn, digitsUpTo}
 use Rattle.text.proofs.Back.{number-back, digits-back}
 use Rattle.text.proofs.Reading.{picked}
 use Rattle.text.specs.declared.Number.the-variants.{Value}
+use Rattle.key.specs.Table.{steps, signatureSize}
 use Rattle.ledger.specs.declared.Header.{Header}
 use Rattle.ledger.specs.declared.Record.{Record}
 use Rattle.ledger.specs.declared.Entry.{Entry}
 use Rattle.ledger.specs.declared.Entry.the-variants.{WellFormed, IllFormed}
-use Rattle.ledger.specs.Records.{steps, signatureSize, cardIn, numbersIn, malformed, signed, signedIn, recordIn, message}
+use Rattle.ledger.specs.Records.{cardIn, numbersIn, malformed, signed, signedIn, recordIn, message}
 use Rattle.ledger.proofs.Ranges.{given-some, chosen, ill-not}
 
 malformed-not : {r : Record} {s : List ℕ} → malformed ≡ signed r s → ⊥
@@ -25,7 +26,7 @@ malformed-not e = let z : _≡_ {A = ℕ} 0 1 = cc in omega arith
 entry-of : (h : Header) (e : Entry) (hex : List ℕ) {r : Record} {s : List ℕ} → signedIn h e hex ≡ signed r s → e ≡ WellFormed r
 entry-of h IllFormed hex p = absurd (malformed-not p)
 entry-of h (WellFormed q) hex {r} {s} p =
-    let c = chosen (isHexOf (signatureSize h) hex) (signed q (bytesOf hex)) malformed malformed-not p in
+    let c = chosen (isHexOf (signatureSize (h .h1) (h .h2)) hex) (signed q (bytesOf hex)) malformed malformed-not p in
     cc
 
 card-back : (s : List ℕ) {c : ℕ} → cardIn s ≡ Value c → padded 16 c ≡ s
@@ -38,7 +39,7 @@ card-back s {c} e =
 numbers-message : (h : Header) (step card serial amount : List ℕ) {r : Record} → numbersIn h step card serial amount ≡ WellFormed r → message r ≡ card ++ (serial ++ amount)
 unfolding numbersIn message
 numbers-message h step card serial amount {r} e =
-    let t = given-some IllFormed (numberIn 0 (steps h - 1) step) _ ill-not e in
+    let t = given-some IllFormed (numberIn 0 (steps (h .h1) (h .h2) - 1) step) _ ill-not e in
     let c = given-some IllFormed (cardIn card) _ ill-not (t .so) in
     let n = given-some IllFormed (numberIn 1 4294967295 serial) _ ill-not (c .so) in
     let a = given-some IllFormed (numberIn 1 2000000 amount) _ ill-not (n .so) in

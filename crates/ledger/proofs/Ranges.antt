@@ -15,6 +15,7 @@ use Rattle.text.proofs.Reading.{picked, digits-within, within}
 use Rattle.text.specs.declared.Number.{Number}
 use Rattle.text.specs.declared.Number.the-variants.{Value, Bad}
 use Rattle.lines.specs.Lines.{Line, whole, long, unended}
+use Rattle.key.specs.Table.{steps, signatureSize}
 use Rattle.ledger.specs.declared.Header.{Header}
 use Rattle.ledger.specs.declared.Record.{Record}
 use Rattle.ledger.specs.declared.Books.{Books}
@@ -22,7 +23,7 @@ use Rattle.ledger.specs.declared.Entry.{Entry}
 use Rattle.ledger.specs.declared.Entry.the-variants.{WellFormed, IllFormed}
 use Rattle.ledger.specs.declared.Judged.{Judged}
 use Rattle.ledger.specs.FirstLine.{right, wrong, kes, headWith, headIn, Fits}
-use Rattle.ledger.specs.Records.{steps, signatureSize, cardIn, numbersIn, Found, malformed, signed, signedIn, recordIn, InRange}
+use Rattle.ledger.specs.Records.{cardIn, numbersIn, Found, malformed, signed, signedIn, recordIn, InRange}
 use Rattle.ledger.specs.Judging.{accepts, caseOf, judged, Adds}
 
 -- a number was given
@@ -69,7 +70,7 @@ ill-not e = let z : _≡_ {A = ℕ} 0 1 = cc in omega arith
 numbers-range : (h : Header) (step card serial amount : List ℕ) {r : Record} → numbersIn h step card serial amount ≡ WellFormed r → InRange r
 unfolding numbersIn cardIn
 numbers-range h step card serial amount {r} e =
-    let t = given-some IllFormed (numberIn 0 (steps h - 1) step) _ ill-not e in
+    let t = given-some IllFormed (numberIn 0 (steps (h .h1) (h .h2) - 1) step) _ ill-not e in
     let c = given-some IllFormed (cardIn card) _ ill-not (t .so) in
     let n = given-some IllFormed (numberIn 1 4294967295 serial) _ ill-not (c .so) in
     let a = given-some IllFormed (numberIn 1 2000000 amount) _ ill-not (n .so) in
@@ -92,7 +93,7 @@ pick-ranged false x i = tt
 
 signed-ranged : (h : Header) (e : Entry) (s : List ℕ) → ((r : Record) → e ≡ WellFormed r → InRange r) → Ranged (signedIn h e s)
 signed-ranged h IllFormed s f = tt
-signed-ranged h (WellFormed r) s f = pick-ranged (isHexOf (signatureSize h) s) (signed r (bytesOf s)) (f r refl)
+signed-ranged h (WellFormed r) s f = pick-ranged (isHexOf (signatureSize (h .h1) (h .h2)) s) (signed r (bytesOf s)) (f r refl)
 
 record-ranged : (h : Header) (fs : List (List ℕ)) → Ranged (recordIn h fs)
 unfolding recordIn

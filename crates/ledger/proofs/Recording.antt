@@ -12,11 +12,12 @@ use Rattle.text.proofs.Nibbles.{full-hex, other-hex}
 use Rattle.text.specs.declared.Number.the-variants.{Value, Bad}
 use Rattle.text.specs.declared.Decoded.{Decoded}
 use Rattle.text.specs.declared.Decoded.the-variants.{Full, Other}
+use Rattle.key.specs.Table.{steps, signatureSize}
 use Rattle.ledger.specs.declared.Header.{Header}
 use Rattle.ledger.specs.declared.Record.{Record}
 use Rattle.ledger.specs.declared.Entry.{Entry}
 use Rattle.ledger.specs.declared.Entry.the-variants.{WellFormed, IllFormed}
-use Rattle.ledger.specs.Records.{steps, signatureSize, cardIn, numbersIn, Found, malformed, signed, signedIn, recordIn, entryOf, Reads}
+use Rattle.ledger.specs.Records.{cardIn, numbersIn, Found, malformed, signed, signedIn, recordIn, entryOf, Reads}
 use Rattle.ledger.specs.Splitting.{OtherFields}
 
 module _ (s : List ℕ) where
@@ -28,7 +29,7 @@ module _ (s : List ℕ) where
   unfolding cardIn
   card-digits h = simp (eq-eqb (length s) 16 h)
 
-module _ (h : Header) (step card serial amount : List ℕ) (last : ℕ) (el : last ≡ steps h - 1) where
+module _ (h : Header) (step card serial amount : List ℕ) (last : ℕ) (el : last ≡ steps (h .h1) (h .h2) - 1) where
   abbrev Is : Entry → Type 0
   Is e = numbersIn h step card serial amount ≡ e
 
@@ -87,17 +88,17 @@ module _ (h : Header) {fs : List (List ℕ)} {step card serial amount hex : List
   pub no-numbers : {room : List ℕ} → entry ≡ IllFormed → Reads (recordIn h fs) room entry room
   no-numbers e = rw e (reads-none (found-in ∙ rw e) refl)
 
-  module _ {r : Record} (e : entry ≡ WellFormed r) {room room′ : List ℕ} {d : Decoded} (l : length room ≡ signatureSize h) (u : Unhexes hex room d room′) where
+  module _ {r : Record} (e : entry ≡ WellFormed r) {room room′ : List ℕ} {d : Decoded} (l : length room ≡ signatureSize (h .h1) (h .h2)) (u : Unhexes hex room d room′) where
     pub no-signature : d ≡ Other → Reads (recordIn h fs) room IllFormed room′
     no-signature o =
         let f = other-hex u o in
-        let g : isHexOf (signatureSize h) hex ≡ false = ap (λ (n : ℕ). isHexOf n hex) (sym l) ∙ f .0 in
+        let g : isHexOf (signatureSize (h .h1) (h .h2)) hex ≡ false = ap (λ (n : ℕ). isHexOf n hex) (sym l) ∙ f .0 in
         reads-none (found-in ∙ rw (e, g)) (f .1)
 
     pub with-signature : d ≡ Full → Reads (recordIn h fs) room entry room′
     with-signature o =
         let f = full-hex u o in
-        let g : isHexOf (signatureSize h) hex ≡ true = ap (λ (n : ℕ). isHexOf n hex) (sym l) ∙ f .0 in
+        let g : isHexOf (signatureSize (h .h1) (h .h2)) hex ≡ true = ap (λ (n : ℕ). isHexOf n hex) (sym l) ∙ f .0 in
         let k : recordIn h fs ≡ signed r (bytesOf hex) = found-in ∙ rw (e, g) in
         record { answers = e ∙ rw k; leaves = f .1 ∙ rw k }
 

@@ -1,7 +1,7 @@
 -- The record of a later line. Document 01, "The top-up journal": "step, card (16 digits), serial (1 to 4,294,967,295), amount in cents (1 to 2,000,000), signature".
 use mathlib.Core.Path.{_≡_}
 use mathlib.Core.List.{List, [], _∷_, _++_}
-use Prim.Native.Nat.{ℕ, _+_, _*_, _-_, _^_, _≤_}
+use Prim.Native.Nat.{ℕ, _-_, _≤_}
 use lib.Dec.{eqb}
 use lib.ListN.{length}
 use Rattle.fields.specs.Tests.{pick}
@@ -10,17 +10,11 @@ use Rattle.text.specs.Hex.{isHexOf, bytesOf}
 use Rattle.text.specs.Digits.{decimal, padded}
 use Rattle.text.specs.declared.Number.{Number}
 use Rattle.text.specs.declared.Number.the-variants.{Bad}
+use Rattle.key.specs.Table.{steps, signatureSize}
 use Rattle.ledger.specs.declared.Header.{Header}
 use Rattle.ledger.specs.declared.Record.{Record}
 use Rattle.ledger.specs.declared.Entry.{Entry}
 use Rattle.ledger.specs.declared.Entry.the-variants.{WellFormed, IllFormed}
-
--- T, and the length of a product signature (rules 7 and 8)
-unfoldable pub steps : Header → ℕ
-steps h = 2 ^ (h .h1 + h .h2)
-
-unfoldable pub signatureSize : Header → ℕ
-signatureSize h = 224 + 32 * (h .h1 + h .h2)
 
 -- 16 digits, of which the first may be zeros
 unfoldable pub cardIn : List ℕ → Number
@@ -29,7 +23,7 @@ cardIn s = pick (eqb (length s) 16) (digitsUpTo 9999999999999999 s) Bad
 -- the numbers of a record; a step at or past T is none
 unfoldable pub numbersIn : Header → List ℕ → List ℕ → List ℕ → List ℕ → Entry
 numbersIn h step card serial amount =
-    given IllFormed (numberIn 0 (steps h - 1) step) (λ t.
+    given IllFormed (numberIn 0 (steps (h .h1) (h .h2) - 1) step) (λ t.
     given IllFormed (cardIn card) (λ c.
     given IllFormed (numberIn 1 4294967295 serial) (λ n.
     given IllFormed (numberIn 1 2000000 amount) (λ cents.
@@ -43,7 +37,7 @@ pub data Found : Type 0 where
 -- the signature is the hex of its exact length
 abbrev pub signedIn : Header → Entry → List ℕ → Found
 signedIn h IllFormed signature = malformed
-signedIn h (WellFormed r) signature = pick (isHexOf (signatureSize h) signature) (signed r (bytesOf signature)) malformed
+signedIn h (WellFormed r) signature = pick (isHexOf (signatureSize (h .h1) (h .h2)) signature) (signed r (bytesOf signature)) malformed
 
 -- the record that the fields of a line say
 unfoldable pub recordIn : Header → List (List ℕ) → Found

@@ -1,10 +1,10 @@
 // The case of a line, and what it leaves to the next.
 ghost use mathlib.Core.Path.{_≡_};
-ghost use Prim.Native.Nat.{_≤_, _<_};
 ghost use lib.ListN.{length};
 ghost use Rattle.text.specs.Fields.{fields};
+ghost use Rattle.key.specs.Table.{signatureSize};
 ghost use Rattle.ledger.specs.FirstLine.{Fits};
-ghost use Rattle.ledger.specs.Records.{signatureSize, recordIn, InRange};
+ghost use Rattle.ledger.specs.Records.{recordIn, InRange};
 ghost use Rattle.ledger.specs.Judging.{caseOf, passed, added, after, Sound, Adds};
 use crate::Books;
 use crate::Entry;
@@ -14,13 +14,6 @@ use crate::Record;
 use crate::reading::read_record;
 use crate::signing::is_accepted;
 
-fn signature_size(header: Header) -> usize
-    requires { ⌜ Fits header ⌝ }
-    ensures { λ r. ⌜ (r ≡ signatureSize header) × (r ≤ 992) ⌝ }
-{
-    (224 + 32 * (header.h1 + header.h2)) as usize
-}
-
 // Room for the longest signature; only its length matters.
 fn signature_room() -> [u8; 992]
     ensures { λ r. ⌜ length r ≡ 992 ⌝ }
@@ -29,7 +22,7 @@ fn signature_room() -> [u8; 992]
 }
 
 fn judge_in(header: Header, books: Books, line: &[u8], signature: &mut [u8]) -> Judged
-    requires { ⌜ Fits header × Sound books × (length (now signature) ≡ signatureSize header) ⌝ }
+    requires { ⌜ Fits header × Sound books × (length (now signature) ≡ signatureSize (header .h1) (header .h2)) ⌝ }
     ensures { λ r. ⌜ r ≡ caseOf header books (recordIn header (fields (now (line .entry)))) ⌝ }
 {
     let entry = read_record(header, line, signature);
@@ -56,7 +49,7 @@ pub fn judge(header: Header, books: Books, line: &[u8]) -> Judged
     ensures { λ r. ⌜ r ≡ caseOf header books (recordIn header (fields (now (line .entry)))) ⌝ }
 {
     let mut room = signature_room();
-    let n = signature_size(header);
+    let n = key::layout::signature_size(header.h1 as usize, header.h2 as usize);
     judge_in(header, books, line, &mut room[0..n])
 }
 

@@ -4,8 +4,9 @@ ghost use Prim.Native.Nat.{_-_, _<_};
 ghost use lib.ListN.{length};
 ghost use Rattle.fields.specs.Tests.{same};
 ghost use Rattle.text.specs.Fields.{fields};
+ghost use Rattle.key.specs.Table.{steps, signatureSize};
 ghost use Rattle.ledger.specs.FirstLine.{kes, wrong, headWith, headIn, noHeader, headed, Fits};
-ghost use Rattle.ledger.specs.Records.{steps, signatureSize, cardIn, numbersIn, recordIn, Reads};
+ghost use Rattle.ledger.specs.Records.{cardIn, numbersIn, recordIn, Reads};
 ghost use Rattle.ledger.specs.Splitting.{TwoFields, FourFields, FiveFields};
 use crate::Answer;
 use crate::Entry;
@@ -113,9 +114,9 @@ pub fn read_header(line: &[u8]) -> Headed
 
 fn last_step(header: Header) -> u64
     requires { ⌜ Fits header ⌝ }
-    ensures { λ r. ⌜ (r ≡ steps header - 1) × (r < 16777216) ⌝ }
+    ensures { λ r. ⌜ (r ≡ steps (header .h1) (header .h2) - 1) × (r < 16777216) ⌝ }
 {
-    (1 << (header.h1 + header.h2)) - 1
+    key::layout::steps(header.h1 as usize, header.h2 as usize) as u64 - 1
 }
 
 fn read_card(s: &[u8]) -> Number
@@ -161,7 +162,7 @@ fn read_fields(
     d: usize,
     signature: &mut [u8],
 ) -> Entry
-    requires { ⌜ Fits header × FiveFields (now line) a b c d × (length (now signature) ≡ signatureSize header) ⌝ }
+    requires { ⌜ Fits header × FiveFields (now line) a b c d × (length (now signature) ≡ signatureSize (header .h1) (header .h2)) ⌝ }
     ensures { λ r. ⌜ Reads (recordIn header (fields (now (line .entry)))) (now (signature .entry)) r (now (signature .exit)) ⌝ }
 {
     let card = a + 1;
@@ -187,7 +188,7 @@ fn read_fields(
 
 // The record of a line; its signature goes into signature, which a malformed line leaves as found.
 pub fn read_record(header: Header, line: &[u8], signature: &mut [u8]) -> Entry
-    requires { ⌜ Fits header × (length (now signature) ≡ signatureSize header) ⌝ }
+    requires { ⌜ Fits header × (length (now signature) ≡ signatureSize (header .h1) (header .h2)) ⌝ }
     ensures { λ r. ⌜ Reads (recordIn header (fields (now (line .entry)))) (now (signature .entry)) r (now (signature .exit)) ⌝ }
 {
     match split(line) {
