@@ -187,4 +187,5 @@ class Comparison:
 
 if __name__ == "__main__":
     with tempfile.TemporaryDirectory() as folder:
-        main(__file__, functools.partial(Comparison, Library(folder)), PLANTED + HOSTILE)
+        compared = functools.partial(Comparison, Library(folder))
+        main(__file__, compared, {error.__doc__.rstrip("."): functools.partial(compared, error) for error in PLANTED + HOSTILE})

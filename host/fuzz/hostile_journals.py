@@ -3,6 +3,8 @@
 Both sides ask libsodium for Ed25519, so what is compared is this program. Needs desk/build before.
     hostile_journals.py [--seed S] [--seconds N] [--case N] [--planted]"""
 import collections
+import contextlib
+import functools
 import pathlib
 import random
 import re
@@ -19,8 +21,8 @@ import kes
 from journal import LONGEST_LINE, Judge
 from journals import HEIGHTS, Day
 from journals import drawn as damaged
+from misread import MISREADINGS
 from mutate import spoiled
-from planted_journal import PLANTED
 from rounds import Different, NoAnswer, main
 
 PROGRAM = HOST.parent / "build" / "journal"
@@ -28,6 +30,9 @@ TIME_LIMIT = 20
 DAYS = [Day(random.Random(h1), h1, h2, 6, corpus.SCHEME) for h1, h2 in [*HEIGHTS, (6, 6)]]
 NUMERALS = [b"", b"0", b"00", b"01", b"1", b"2", b"-1", b"+1", b" 1", b"1e3", b"12", b"13", b"2000000", b"2000001", b"4294967295", b"4294967296",
             b"18446744073709551615", b"18446744073709551616", b"9" * 30]
+# drawn too seldom to be noticed here; host/model/journal_cases.py has a journal for each
+SELDOM = ["step up to T", "step up to T - 2", "what follows 2048 bytes is a line", "fields of line 1 after the fourth are ignored",
+          "tabs around and beside each other are one", "blanks part fields", "KES is kes"]
 BYTES = [b"\t", b"\n", b"\r", b"\r\n", b"\0", b" ", b"\xff", b"\t\t", b"\n\n"]
 
 
@@ -114,14 +119,16 @@ def judged(parts):
 class Comparison:
     """The program beside a model. A case is a journal and its pieces."""
 
-    def __init__(self, judge=Judge):
-        self.judge, self.show = judge(corpus.SCHEME), repr
+    def __init__(self, misreading=contextlib.nullcontext()):
+        self.judge, self.show, self.misreading = Judge(corpus.SCHEME), repr, misreading
 
     def case(self, draw):
         return pieces(draw, hostile(draw))
 
     def check(self, parts):
-        wrote, expected = judged(parts), self.judge.output(b"".join(parts))
+        with self.misreading:
+            expected = self.judge.output(b"".join(parts))
+        wrote = judged(parts)
         if wrote != expected:
             raise Different(f"{parts!r}\nprogram {wrote!r}\nmodel   {expected!r}")
         return collections.Counter(f"letter {letter.decode()}" for letter in re.findall(rb"^\d+\t([A-Z])$", expected, re.M))
@@ -129,4 +136,4 @@ class Comparison:
 
 if __name__ == "__main__":
     signal.signal(signal.SIGALRM, on_alarm)
-    main(__file__, Comparison, PLANTED)
+    main(__file__, Comparison, {words: functools.partial(Comparison, MISREADINGS[words]) for words in MISREADINGS if words not in SELDOM})

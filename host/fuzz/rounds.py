@@ -8,7 +8,7 @@ import time
 
 INTERVAL = 10
 # so many cases have to be enough to notice a planted error
-ENOUGH = 5000
+ENOUGH = 1000
 
 
 class Different(Exception):
@@ -80,17 +80,17 @@ class Rounds:
             try:
                 comparison.check(comparison.case(self.drawn(number)))
             except Different:
-                return self.say(f"planted: {error} Noticed at case {number}.")
-        self.say(f"FAILED: planted: {error} {ENOUGH} cases of seed {self.chosen.seed} do not notice it.")
+                return self.say(f"planted: {error}: noticed at case {number}")
+        self.say(f"FAILED: planted: {error}: {ENOUGH} cases of seed {self.chosen.seed} do not notice it")
         sys.exit(1)
 
 
 def main(script, comparison, errors):
-    """What a hostile script does: comparison() is with the sound model, comparison(error) with one that has an error."""
+    """What a hostile script does: comparison() is with the sound model, each of errors, by its words, with one that has an error."""
     rounds = Rounds(script)
     if rounds.chosen.planted:
-        for error in errors:
-            rounds.notices(comparison(error), error.__doc__)
+        for words, planted in errors.items():
+            rounds.notices(planted(), words)
     elif rounds.chosen.case is not None:
         rounds.again(comparison())
     else:

@@ -50,9 +50,8 @@ def record(line, h1, h2):
 
 
 class Judge:
-    """Judges journals with a scheme. What it is made of can be overridden, by a test that plants an error."""
+    """Judges journals with a scheme."""
 
-    cut_lines, record = staticmethod(cut_lines), staticmethod(record)
     # the letters of lines whose step, serial and cents count
     counted = "G"
 
@@ -61,7 +60,7 @@ class Judge:
         self.verify = functools.lru_cache(maxsize=2**12)(scheme.verify)
 
     def output(self, data):
-        lines = self.cut_lines(data)
+        lines = cut_lines(data)
         head = header(lines[0]) if lines else None
         if head is None:
             return b"1\tH\n"
@@ -69,7 +68,7 @@ class Judge:
         last_step = last_serial = count = cents = 0
         out = []
         for n, line in enumerate(lines[1:], 2):
-            found = self.record(line, h1, h2)
+            found = record(line, h1, h2)
             letter = self.letter(head, found, last_step, last_serial)
             if letter in self.counted:
                 last_step, last_serial, count, cents = found[0], found[1], count + 1, cents + found[2]

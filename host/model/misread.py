@@ -87,6 +87,7 @@ MISREADINGS = {
     "no O": letters("SB"),
     "no S": letters("OB"),
     "no B": letters("OS"),
+    "a line that is B counts": patch.object(journal.Judge, "counted", "GB"),
     "the same step is below": letters(below=operator.le),
     "a serial need only rise": letters(follows=operator.gt),
     "the first serial is any": letters(follows=lambda serial, last: last == 0 or serial == last + 1),
