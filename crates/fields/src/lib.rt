@@ -9,6 +9,7 @@ ghost use Rattle.fields.specs.Tests.{same};
 pub fn write(out: &mut [u8], at: usize, bytes: &[u8])
     requires { ⌜ at + length (now bytes) ≤ length (now out) ⌝ }
     ensures { λ _. ⌜ now (out .exit) ≡ put (now (out .entry)) at (length (now (bytes .entry))) (now (bytes .entry)) ⌝ }
+    ensures { λ _. ⌜ now (bytes .exit) ≡ now (bytes .entry) ⌝ }
 {
     let mut i: usize = 0;
     while i < bytes.len() {
@@ -29,6 +30,7 @@ pub fn put32(out: &mut [u8], at: usize, field: [u8; 32])
 pub fn get32(s: &[u8], at: usize) -> [u8; 32]
     requires { ⌜ at + 32 ≤ length (now s) ⌝ }
     ensures { λ r. ⌜ r ≡ part (now (s .entry)) at 32 ⌝ }
+    ensures { λ _. ⌜ now (s .exit) ≡ now (s .entry) ⌝ }
 {
     let mut field = [0u8; 32];
     let end = at + 32;
@@ -48,6 +50,7 @@ pub fn put64(out: &mut [u8], at: usize, field: [u8; 64])
 pub fn get64(s: &[u8], at: usize) -> [u8; 64]
     requires { ⌜ at + 64 ≤ length (now s) ⌝ }
     ensures { λ r. ⌜ r ≡ part (now (s .entry)) at 64 ⌝ }
+    ensures { λ _. ⌜ now (s .exit) ≡ now (s .entry) ⌝ }
 {
     let mut field = [0u8; 64];
     let end = at + 64;
@@ -59,6 +62,7 @@ pub fn get64(s: &[u8], at: usize) -> [u8; 64]
 pub fn equal(x: &[u8], y: &[u8]) -> bool
     requires { ⌜ length (now x) ≡ length (now y) ⌝ }
     ensures { λ r. ⌜ r ≡ same (now (x .entry)) (now (y .entry)) ⌝ }
+    ensures { λ _. ⌜ (now (x .exit) ≡ now (x .entry)) × (now (y .exit) ≡ now (y .entry)) ⌝ }
 {
     let mut i: usize = 0;
     while i < x.len() {

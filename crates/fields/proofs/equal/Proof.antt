@@ -21,7 +21,7 @@ returns : tie.Need-returns Inv-loop μ-loop
 returns c =
     let l = c .before .before .before .before .loop in
     let a = c .before .before .before .before .before .args in
-    sym (l .inv .1 ∙ same-not (a .x .now) (a .y .now) (l .i) (omega arith) (omega arith) (c .if1 .taken))
+    (sym (l .inv .1 ∙ same-not (a .x .now) (a .y .now) (l .i) (omega arith) (omega arith) (c .if1 .taken)), (refl, refl))
 
 loop-again : tie.Need-loop-again Inv-loop μ-loop
 loop-again c =
@@ -33,7 +33,7 @@ returns-2 : tie.Need-returns-2 Inv-loop μ-loop
 returns-2 c =
     let l = c .before .loop in
     let a = c .before .before .args in
-    sym (l .inv .1 ∙ same-end (a .x .now) (a .y .now) (l .i) (omega arith) (omega arith))
+    (sym (l .inv .1 ∙ same-end (a .x .now) (a .y .now) (l .i) (omega arith) (omega arith)), (refl, refl))
 
 pub equal-spec : {M : Type 1} → statement M
 equal-spec =

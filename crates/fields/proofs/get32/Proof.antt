@@ -9,7 +9,7 @@ use Rattle.fields.proofs.get32.Tie as tie
 returns : tie.Need-returns
 returns c =
     let a = c .before .before .before .before .before .args in
-    c .before .write .ensures ∙ filled-by (replicate 32 0) (a .s .now) (a .at) 32 (omega arith) refl
+    (c .before .write .ensures .0 ∙ filled-by (replicate 32 0) (a .s .now) (a .at) 32 (omega arith) refl, refl)
 
 pub get32-spec : {M : Type 1} → statement M
 get32-spec =

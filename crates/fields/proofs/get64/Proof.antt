@@ -9,7 +9,7 @@ use Rattle.fields.proofs.get64.Tie as tie
 returns : tie.Need-returns
 returns c =
     let a = c .before .before .before .before .before .args in
-    c .before .write .ensures ∙ filled-by (replicate 64 0) (a .s .now) (a .at) 64 (omega arith) refl
+    (c .before .write .ensures .0 ∙ filled-by (replicate 64 0) (a .s .now) (a .at) 64 (omega arith) refl, refl)
 
 pub get64-spec : {M : Type 1} → statement M
 get64-spec =

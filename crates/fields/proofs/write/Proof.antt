@@ -38,7 +38,7 @@ returns c =
     let l = c .before .loop in
     let a = c .before .before .args in
     let all : l .i ≡ length (a .bytes .now) = omega arith in
-    l .inv .1 ∙ ap (paste (a .out .now) (a .at) (a .bytes .now)) all ∙ paste-whole (a .out .now) (a .at) (a .bytes .now)
+    (l .inv .1 ∙ ap (paste (a .out .now) (a .at) (a .bytes .now)) all ∙ paste-whole (a .out .now) (a .at) (a .bytes .now), refl)
 
 pub write-spec : {M : Type 1} → statement M
 write-spec =

@@ -8,7 +8,7 @@ use Rattle.blake2b.proofs.message.padded.Tie as tie
 returns : tie.Need-returns
 returns c =
     let a = c .before .before .before .before .before .args in
-    c .before .write .ensures ∙ padded-is (a .s .now) (a .from) (omega arith) (omega arith)
+    c .before .write .ensures .0 ∙ padded-is (a .s .now) (a .from) (omega arith) (omega arith)
 
 pub padded-spec : {M : Type 1} → statement M
 padded-spec =

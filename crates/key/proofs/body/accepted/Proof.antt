@@ -45,7 +45,7 @@ returns c =
     let a = w .before .before .before .args in
     let judged =
     parent-strays (a .key) (a .message .now) (a .signature .now) (a .h1) (a .h2) (a .t) (w .leaves .ensures .0) (s₁ .sum-size .ensures)
-    (s₂ .sum-size2 .ensures) (r .get32 .ensures) (q .path-fits .ensures .0) (p .path-fits2 .ensures .0) (not-true _ (c .if1 .taken)) in
+    (s₂ .sum-size2 .ensures) (r .get32 .ensures .0) (q .path-fits .ensures .0) (p .path-fits2 .ensures .0) (not-true _ (c .if1 .taken)) in
     (judged, (refl, refl))
 
 returns-2 : tie.Need-returns-2
@@ -59,7 +59,7 @@ returns-2 c =
     let a = w .before .before .before .args in
     let judged =
     child-strays (a .key) (a .message .now) (a .signature .now) (a .h1) (a .h2) (a .t) (w .leaves .ensures .0) (s₁ .sum-size .ensures)
-    (s₂ .sum-size2 .ensures) (r .get32 .ensures) (q .path-fits .ensures .0) (p .path-fits2 .ensures .0)
+    (s₂ .sum-size2 .ensures) (r .get32 .ensures .0) (q .path-fits .ensures .0) (p .path-fits2 .ensures .0)
     (not-false _ (c .before .if1 .left)) (not-true _ (c .if2 .taken)) in
     (judged, (refl, refl))
 
@@ -75,7 +75,7 @@ returns-3 c =
     let a = w .before .before .before .args in
     let judged =
     both-asked (a .key) (a .message .now) (a .signature .now) (a .h1) (a .h2) (a .t) (w .leaves .ensures .0) (s₁ .sum-size .ensures)
-    (s₂ .sum-size2 .ensures) (r .get32 .ensures) (q .path-fits .ensures .0) (p .path-fits2 .ensures .0)
+    (s₂ .sum-size2 .ensures) (r .get32 .ensures .0) (q .path-fits .ensures .0) (p .path-fits2 .ensures .0)
     (not-false _ (c₃ .before .before .before .before .if1 .left)) (not-false _ (c₃ .before .before .before .if2 .left)) (c₃ .leaf-accepts .ensures .0)
     (c .before .before .if3 .taken) (c .leaf-accepts2 .ensures .0) in
     (judged, (refl, refl))
@@ -92,7 +92,7 @@ returns-4 c =
     let a = w .before .before .before .args in
     let judged =
     parent-refused (a .key) (a .message .now) (a .signature .now) (a .h1) (a .h2) (a .t) (w .leaves .ensures .0) (s₁ .sum-size .ensures)
-    (s₂ .sum-size2 .ensures) (r .get32 .ensures) (q .path-fits .ensures .0) (p .path-fits2 .ensures .0)
+    (s₂ .sum-size2 .ensures) (r .get32 .ensures .0) (q .path-fits .ensures .0) (p .path-fits2 .ensures .0)
     (not-false _ (c₁ .before .before .before .before .if1 .left)) (not-false _ (c₁ .before .before .before .if2 .left)) (c₁ .leaf-accepts .ensures .0)
     (c .if3 .left) in
     (judged, (refl, refl))

@@ -139,7 +139,7 @@ returns-2 c =
     let m = c₇ .move-tree2 in
     let l = length-take-le (c₉ .tree-size .result) (a .body .now) (omega (arith, c₁₇ .pre .4)) in (
       across-count (a .header) (a .body .now) (a .step) w f (m .ensures .0) (c .count-new-at .ensures),
-      across-body (a .header) (a .body .now) (a .step) w f (c₁₂ .next-at .ensures) (c₁₁ .get32 .ensures) (c₁₀ .advance .ensures)
+      across-body (a .header) (a .body .now) (a .step) w f (c₁₂ .next-at .ensures) (c₁₁ .get32 .ensures .0) (c₁₀ .advance .ensures)
           (c₉ .tree-size .ensures)
           (m .kept .0 ∙ l) (m .ensures .1) (c₃ .enter .ensures),
     )

@@ -59,7 +59,7 @@ returns c =
     let c₁₆ = c₁₅ .before in
     let c₁₈ = c₁₆ .before .before in
     sealed (c₁₈ .args .body .now) (c₁₈ .args .t4) (c₁₅ .blank .result) (c₁₈ .args .h) (c₁₈ .args .t) (c₁₆ .sum-size .result) (c₁₆ .sum-size .ensures)
-    (c₁₈ .pre .2) (c₁₁ .sum-sign .ensures .0) (c₈ .tree-size .ensures) (c₆ .write .ensures) (c₂ .forget-secret .ensures)
+    (c₁₈ .pre .2) (c₁₁ .sum-sign .ensures .0) (c₈ .tree-size .ensures) (c₆ .write .ensures .0) (c₂ .forget-secret .ensures)
 
 pub seal-spec : {M : Type 1} → statement M
 seal-spec =

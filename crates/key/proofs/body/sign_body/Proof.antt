@@ -40,7 +40,7 @@ returns c =
     let whole =
     product-signed (a .body .now) (a .message .now) (a .out .now) (x .h1) (x .h2) (x .step) (c₂₅ .pre .2) (c₂₅ .pre .3) (c₂₁ .leaves .ensures .0)
     (c₂₀ .tree-size .ensures) (c₁₉ .next-at .ensures) (c₁₈ .seam-size .ensures) (c₁₇ .sum-size .ensures) (c₁₆ .sum-size2 .ensures)
-    (c₁₃ .sum-sign .ensures .0) (c₈ .write .ensures) (c₃ .root .ensures .0) (c₂ .put32 .ensures) in
+    (c₁₃ .sum-sign .ensures .0) (c₈ .write .ensures .0) (c₃ .root .ensures .0) (c₂ .put32 .ensures) in
     (whole, (refl, refl))
 
 pub sign-body-spec : {M : Type 1} → statement M

@@ -81,7 +81,7 @@ returns-4 c =
     let c₂₁ = c₁₇ .before .before .before .before in
     let a = c₂₁ .args in
     make-done (a .h1) (a .h2) (a .seed .now) (a .table .now) (low c₁₇) (c₁₆ .if2 .left) (c₁₅ .table-size .ensures) (c₁₄ .if3 .left)
-    (c₁₂ .get32 .ensures) (c₁₀ .make-body .ensures .0) (c₁₀ .make-body .ensures .1) (c₆ .put-header .ensures) zeros-are (c₂ .put32 .ensures)
+    (c₁₂ .get32 .ensures .0) (c₁₀ .make-body .ensures .0) (c₁₀ .make-body .ensures .1) (c₆ .put-header .ensures) zeros-are (c₂ .put32 .ensures)
 
 pub make-spec : {M : Type 1} → statement M
 make-spec =

@@ -10,7 +10,7 @@ returns c = sym (not-kes _ (c .if1 .taken))
 
 returns-2 : tie.Need-returns-2
 unfolding kes
-returns-2 c = c .equal .ensures
+returns-2 c = c .equal .ensures .0
 
 pub is-kes-spec : {M : Type 1} → statement M
 is-kes-spec =

@@ -15,7 +15,7 @@ returns c =
     let c₆ = c₂ .before .before .before .before in
     let c₈ = c₆ .before .before in
     let a = c₈ .before .before .before .args in
-    entered-is (a .tree .now) (a .h) (a .t) (omega arith) (c₈ .get32 .ensures) (c₆ .grow .ensures .1) zeros-are (c₂ .put32 .ensures)
+    entered-is (a .tree .now) (a .h) (a .t) (omega arith) (c₈ .get32 .ensures .0) (c₆ .grow .ensures .1) zeros-are (c₂ .put32 .ensures)
 
 pub enter-right-spec : {M : Type 1} → statement M
 enter-right-spec =

@@ -31,7 +31,7 @@ returns c =
     let lg : length (g .result) ≡ 64 = search needs in
     let whole =
     signed (a .tree .now) (a .message .now) (a .out .now) (a .h) (a .t) (c₁₈ .pre .3) lv lg (omega arith)
-    (x .ensures) (vk .ensures) (g .ensures .0) (c₁₀ .put32 .ensures) (c₆ .put64 .ensures) (c₂ .put-witnesses .ensures .0) in
+    (x .ensures .0) (vk .ensures .0) (g .ensures .0) (c₁₀ .put32 .ensures) (c₆ .put64 .ensures) (c₂ .put-witnesses .ensures .0) in
     (whole, (refl, refl))
 
 pub sum-sign-spec : {M : Type 1} → statement M

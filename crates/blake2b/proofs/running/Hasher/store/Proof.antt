@@ -16,7 +16,7 @@ returns : tie.Need-returns
 returns c =
     let a = c .before .before .before .before .before .before .before .args in
     let long : length (a .self .buf) ≡ 128 = search needs in
-    rw (c .before .before .write .ensures, ← append-assoc, ← sets-eq (a .bytes .now) (a .self .buf) (a .self .len) (omega arith))
+    rw (c .before .before .write .ensures .0, ← append-assoc, ← sets-eq (a .bytes .now) (a .self .buf) (a .self .len) (omega arith))
 
 pub store-spec : {M : Type 1} → statement M
 store-spec = tie.close (tie.spec (λ c. search needs) write-requires (λ c. search needs) (λ c. search needs) returns)
