@@ -55,6 +55,7 @@ fn fold(h: [u64; 8], v: &[u64; 16]) -> [u64; 8]
 // F, section 3.2, for a count below 2^64: its high word is 0.
 pub fn compress(h: [u64; 8], m: &[u64; 16], t: u64, last: bool) -> [u64; 8]
     ensures { λ r. ⌜ r ≡ spec.F h (now (m .entry)) t last ⌝ }
+    ensures { λ _. ⌜ now (m .exit) ≡ now (m .entry) ⌝ }
 {
     let v = start(h, t, last);
     let w = mixing::rounds(v, m);

@@ -1,3 +1,4 @@
+use mathlib.Core.Path.{refl}
 use Rattle.blake2b.specs.Rfc7693.{F}
 use borrow.Author.Needs.{needs}
 use Rattle.blake2b.proofs.compression.compress.Statement.{statement}
@@ -5,7 +6,7 @@ use Rattle.blake2b.proofs.compression.compress.Tie as tie
 
 returns : tie.Need-returns
 unfolding F
-returns c = rw (c .fold .ensures, c .before .before .rounds .ensures, c .before .before .before .start .ensures)
+returns c = (rw (c .fold .ensures, c .before .before .rounds .ensures, c .before .before .before .start .ensures), refl)
 
 pub compress-spec : {M : Type 1} → statement M
 compress-spec = tie.close (tie.spec (λ c κs. search needs) (λ c κs. search needs) (λ c κs. search needs) returns)

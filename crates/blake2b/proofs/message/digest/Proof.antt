@@ -25,7 +25,7 @@ returns c =
     let c3 = c2 .before .before in
     let c4 = c3 .before in
     let c5 = c4 .before in
-    rw (c .emit .ensures, c1 .compress .ensures, c2 .words .ensures, c3 .padded .ensures, c4 .chain .ensures, c5 .before2 .ensures, block-rest)
+    rw (c .emit .ensures, c1 .compress .ensures .0, c2 .words .ensures, c3 .padded .ensures, c4 .chain .ensures, c5 .before2 .ensures, block-rest)
 
 pub digest-spec : {M : Type 1} → statement M
 digest-spec =
