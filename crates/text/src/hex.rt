@@ -56,6 +56,7 @@ fn decode(s: &[u8], out: &mut [u8])
 // Reads the hex of as many bytes as out has; any other text leaves out as found.
 pub fn unhex(s: &[u8], out: &mut [u8]) -> Decoded
     ensures { λ r. ⌜ Unhexes (now (s .entry)) (now (out .entry)) r (now (out .exit)) ⌝ }
+    ensures { λ _. ⌜ now (s .exit) ≡ now (s .entry) ⌝ }
 {
     if s.len() != 2 * out.len() {
         return Decoded::Other;

@@ -29,6 +29,7 @@ pub enum Decoded {
 // The index of the first x in s from index `from` on: where the field or line that starts there ends.
 pub fn find(s: &[u8], from: usize, x: u8) -> usize
     ensures { λ r. ⌜ r ≡ from + before x (drop from (now (s .entry))) ⌝ }
+    ensures { λ _. ⌜ now (s .exit) ≡ now (s .entry) ⌝ }
 {
     let mut i = from;
     while i < s.len() {

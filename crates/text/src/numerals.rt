@@ -14,6 +14,7 @@ fn wide(x: u8) -> u64
 pub fn read_digits(s: &[u8], high: u64) -> Number
     requires { ⌜ high < 1000000000000000000 ⌝ }
     ensures { λ r. ⌜ r ≡ digitsUpTo high (now (s .entry)) ⌝ }
+    ensures { λ _. ⌜ now (s .exit) ≡ now (s .entry) ⌝ }
 {
     let mut v: u64 = 0;
     let mut i: usize = 0;
@@ -50,6 +51,7 @@ fn no_leading_zero(s: &[u8]) -> bool
 pub fn read_number(s: &[u8], low: u64, high: u64) -> Number
     requires { ⌜ high < 1000000000000000000 ⌝ }
     ensures { λ r. ⌜ r ≡ numberIn low high (now (s .entry)) ⌝ }
+    ensures { λ _. ⌜ now (s .exit) ≡ now (s .entry) ⌝ }
 {
     let plain = no_leading_zero(s);
     if !plain {

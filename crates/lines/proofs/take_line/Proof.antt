@@ -10,16 +10,16 @@ use Rattle.lines.proofs.take_line.Tie as tie
 part-keep-end : tie.Need-part-keep-end
 part-keep-end c =
     let a = c .before .before .before .before .args in
-    omega (arith, c .before .find .ensures, before-le 10 (drop (a .from) (a .piece .now)), length-drop (a .from) (a .piece .now))
+    omega (arith, c .before .find .ensures .0, before-le 10 (drop (a .from) (a .piece .now)), length-drop (a .from) (a .piece .now))
 
 returns : tie.Need-returns
-returns c = takes (c .before .before .before .before .before .before .find .ensures) (c .before .before .before .keep .ensures) (sym (found-cut _ _ _ (omega arith)))
+returns c = takes (c .before .before .before .before .before .before .find .ensures .0) (c .before .before .before .keep .ensures) (sym (found-cut _ _ _ (omega arith)))
 
 returns-2 : tie.Need-returns-2
-returns-2 c = takes (c .before .before .before .before .before .before .before .find .ensures) (c .before .before .before .before .keep .ensures) (sym (found-long _ _ _ (omega arith) (omega arith)))
+returns-2 c = takes (c .before .before .before .before .before .before .before .find .ensures .0) (c .before .before .before .before .keep .ensures) (sym (found-long _ _ _ (omega arith) (omega arith)))
 
 returns-3 : tie.Need-returns-3
-returns-3 c = takes (c .before .before .before .before .before .before .before .find .ensures) (c .before .before .before .before .keep .ensures) (sym (found-whole _ _ _ (omega arith) (omega arith)))
+returns-3 c = takes (c .before .before .before .before .before .before .before .find .ensures .0) (c .before .before .before .before .keep .ensures) (sym (found-whole _ _ _ (omega arith) (omega arith)))
 
 pub take-line-spec : {M : Type 1} → statement M
 take-line-spec =

@@ -19,7 +19,7 @@ returns : tie.Need-returns Inv-loop μ-loop
 returns c =
     let l = c .before .before .before .loop in
     let a = c .before .before .before .before .args in
-    omega (arith, l .inv, before-here (a .x) (a .s .now) (l .i) (omega arith) (c .if1 .taken))
+    (omega (arith, l .inv, before-here (a .x) (a .s .now) (l .i) (omega arith) (c .if1 .taken)), refl)
 
 loop-again : tie.Need-loop-again Inv-loop μ-loop
 loop-again c =
@@ -31,7 +31,7 @@ returns-2 : tie.Need-returns-2 Inv-loop μ-loop
 returns-2 c =
     let l = c .before .loop in
     let a = c .before .before .args in
-    omega (arith, l .inv, before-end (a .x) (a .s .now) (l .i) (omega arith))
+    (omega (arith, l .inv, before-end (a .x) (a .s .now) (l .i) (omega arith)), refl)
 
 pub find-spec : {M : Type 1} → statement M
 find-spec =

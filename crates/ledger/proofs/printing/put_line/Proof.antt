@@ -12,7 +12,7 @@ put-requires : tie.Need-put-requires
 put-requires c κs = omega (arith, decimal-length (c .before .before .before .before .before .before .before .before .args .number), c .before .before .before .before .before .put-number .ensures .ends)
 
 returns : tie.Need-returns
-returns c = puts-line (c .before .before .before .before .before .before .before .before .before .before .before .args .number) (c .before .before .before .before .before .before .before .before .before .before .before .args .judged) (omega arith) (c .before .before .before .before .before .letter .ensures) (c .before .before .before .before .before .before .before .before .put-number .ensures) (c .before .before .put .ensures)
+returns c = puts-line (c .before .before .before .before .before .before .before .before .before .before .before .args .number) (c .before .before .before .before .before .before .before .before .before .before .before .args .judged) (omega arith) (c .before .before .before .before .before .letter .ensures) (c .before .before .before .before .before .before .before .before .put-number .ensures) (c .before .before .put .ensures .0)
 
 pub put-line-spec : {M : Type 1} → statement M
 put-line-spec =

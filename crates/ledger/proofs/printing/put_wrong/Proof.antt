@@ -5,7 +5,7 @@ use Rattle.ledger.proofs.printing.put_wrong.Tie as tie
 
 returns : tie.Need-returns
 unfolding wrongLine
-returns c = c .before .before .put .ensures
+returns c = c .before .before .put .ensures .0
 
 pub put-wrong-spec : {M : Type 1} → statement M
 put-wrong-spec =

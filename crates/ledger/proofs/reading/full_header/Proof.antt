@@ -13,19 +13,19 @@ returns c =
 returns-2 : tie.Need-returns-2
 returns-2 c =
     let kes = sym (c .before .before .before .before .before .before .is-kes .ensures) ∙ not-false _ (c .before .before .before .before .before .if1 .left) in
-    c .wrong2 .ensures ∙ sym (ap headed (full-first (c .before .before .before .before .before .before .before .before .before .pre .are) kes (sym (c .before .before .before .read-number .ensures) ∙ c .before .enum-told .given .1)))
+    c .wrong2 .ensures ∙ sym (ap headed (full-first (c .before .before .before .before .before .before .before .before .before .pre .are) kes (sym (c .before .before .before .read-number .ensures .0) ∙ c .before .enum-told .given .1)))
 
 returns-3 : tie.Need-returns-3
 returns-3 c =
     let kes = sym (c .before .before .before .before .before .before .before .before .before .before .before .is-kes .ensures) ∙ not-false _ (c .before .before .before .before .before .before .before .before .before .before .if1 .left) in
-    let first = sym (c .before .before .before .before .before .before .before .before .read-number .ensures) ∙ c .before .before .before .before .before .before .h1 .given .1 in
-    c .wrong3 .ensures ∙ sym (ap headed (full-second (c .before .before .before .before .before .before .before .before .before .before .before .before .before .before .pre .are) kes first (sym (c .before .before .before .read-number2 .ensures) ∙ c .before .enum-told2 .given .1)))
+    let first = sym (c .before .before .before .before .before .before .before .before .read-number .ensures .0) ∙ c .before .before .before .before .before .before .h1 .given .1 in
+    c .wrong3 .ensures ∙ sym (ap headed (full-second (c .before .before .before .before .before .before .before .before .before .before .before .before .before .before .pre .are) kes first (sym (c .before .before .before .read-number2 .ensures .0) ∙ c .before .enum-told2 .given .1)))
 
 returns-4 : tie.Need-returns-4
 returns-4 c =
     let kes = sym (c .before .before .before .before .before .before .before .before .before .before .before .before .before .is-kes .ensures) ∙ not-false _ (c .before .before .before .before .before .before .before .before .before .before .before .before .if1 .left) in
-    let first = sym (c .before .before .before .before .before .before .before .before .before .before .read-number .ensures) ∙ c .before .before .before .before .before .before .before .before .h1 .given .1 in
-    c .head-with .ensures ∙ sym (ap headed (full-is (c .before .before .before .before .before .before .before .before .before .before .before .before .before .before .before .before .pre .are) kes first (sym (c .before .before .before .before .before .read-number2 .ensures) ∙ c .before .before .before .h2 .given .1)))
+    let first = sym (c .before .before .before .before .before .before .before .before .before .before .read-number .ensures .0) ∙ c .before .before .before .before .before .before .before .before .h1 .given .1 in
+    c .head-with .ensures ∙ sym (ap headed (full-is (c .before .before .before .before .before .before .before .before .before .before .before .before .before .before .before .before .pre .are) kes first (sym (c .before .before .before .before .before .read-number2 .ensures .0) ∙ c .before .before .before .h2 .given .1)))
 
 pub full-header-spec : {M : Type 1} → statement M
 full-header-spec =

@@ -8,7 +8,7 @@ returns : tie.Need-returns
 returns c = sym (card-length _ (c .if1 .taken))
 
 returns-2 : tie.Need-returns-2
-returns-2 c = c .read-digits .ensures ∙ sym (card-digits _ (c .before .if1 .left))
+returns-2 c = c .read-digits .ensures .0 ∙ sym (card-digits _ (c .before .if1 .left))
 
 pub read-card-spec : {M : Type 1} → statement M
 read-card-spec =

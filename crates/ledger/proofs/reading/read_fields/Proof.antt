@@ -11,12 +11,12 @@ returns c =
 returns-2 : tie.Need-returns-2
 returns-2 c =
     let s = c .before .before .before .before .before .before .before .before .before .before .before .before .before .before .before .before in
-    no-signature (s .args .header) (s .pre .1 .are) (c .before .before .before .before .before .before .before .before .before .read-numbers .ensures) (c .before .before .before .before .before .before .before .enum-told .given .1) (s .pre .2) (c .before .before .before .before .unhex .ensures) (c .enum-told4 .given .1)
+    no-signature (s .args .header) (s .pre .1 .are) (c .before .before .before .before .before .before .before .before .before .read-numbers .ensures) (c .before .before .before .before .before .before .before .enum-told .given .1) (s .pre .2) (c .before .before .before .before .unhex .ensures .0) (c .enum-told4 .given .1)
 
 returns-3 : tie.Need-returns-3
 returns-3 c =
     let s = c .before .before .before .before .before .before .before .before .before .before .before .before .before .before .before .before in
-    with-signature (s .args .header) (s .pre .1 .are) (c .before .before .before .before .before .before .before .before .before .read-numbers .ensures) (c .before .before .before .before .before .before .before .enum-told .given .1) (s .pre .2) (c .before .before .before .before .unhex .ensures) (c .enum-told3 .given .1)
+    with-signature (s .args .header) (s .pre .1 .are) (c .before .before .before .before .before .before .before .before .before .read-numbers .ensures) (c .before .before .before .before .before .before .before .enum-told .given .1) (s .pre .2) (c .before .before .before .before .unhex .ensures .0) (c .enum-told3 .given .1)
 
 pub read-fields-spec : {M : Type 1} → statement M
 read-fields-spec =

@@ -1,4 +1,4 @@
-use mathlib.Core.Path.{_≡_, sym, _∙_}
+use mathlib.Core.Path.{_≡_, refl, sym, _∙_}
 use mathlib.Core.Bool.{true, false}
 use native.Mathlib.Omega.{arith}
 use borrow.Author.Needs.{needs}
@@ -13,13 +13,13 @@ returns : tie.Need-returns
 returns c =
     let a = c .before .before .before .args in
     let e : isHexOf (length (a .out .now)) (a .s .now) ≡ false = hex-length _ _ (c .if1 .taken) in
-    record { answers = rw e; leaves = rw e }
+    (record { answers = rw e; leaves = rw e }, refl)
 
 returns-2 : tie.Need-returns-2
 returns-2 c =
     let a = c .before .before .before .before .before .args in
     let e : isHexOf (length (a .out .now)) (a .s .now) ≡ false = hex-every _ _ (omega arith) ∙ sym (c .before .all-hex .ensures) ∙ not-true _ (c .if2 .taken) in
-    record { answers = rw e; leaves = rw e }
+    (record { answers = rw e; leaves = rw e }, refl)
 
 decode-requires : tie.Need-decode-requires
 decode-requires c κs = (omega arith, sym (c .before .before .all-hex .ensures) ∙ not-false _ (c .before .if2 .left))
@@ -28,7 +28,7 @@ returns-3 : tie.Need-returns-3
 returns-3 c =
     let a = c .before .before .before .before .before .before .before .before .before .args in
     let e : isHexOf (length (a .out .now)) (a .s .now) ≡ true = hex-every _ _ (omega arith) ∙ sym (c .before .before .before .before .before .all-hex .ensures) ∙ not-false _ (c .before .before .before .before .if2 .left) in
-    record { answers = rw e; leaves = rw e (c .before .before .decode .ensures) }
+    (record { answers = rw e; leaves = rw e (c .before .before .decode .ensures) }, refl)
 
 pub unhex-spec : {M : Type 1} → statement M
 unhex-spec =

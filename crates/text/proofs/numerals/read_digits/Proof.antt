@@ -19,20 +19,20 @@ returns : tie.Need-returns Inv-loop μ-loop
 returns c =
     let l = c .before .before .before .before .loop in
     let s = c .before .before .before .before .before .before .args .s .now in
-    sym (not-digits _ s (l .inv .2 ∙ every-stop isDigit s (l .i) (omega arith) (digit-low _ (omega arith))))
+    (sym (not-digits _ s (l .inv .2 ∙ every-stop isDigit s (l .i) (omega arith) (digit-low _ (omega arith)))), refl)
 
 returns-2 : tie.Need-returns-2 Inv-loop μ-loop
 returns-2 c =
     let l = c .before .before .before .before .before .loop in
     let s = c .before .before .before .before .before .before .before .args .s .now in
-    sym (not-digits _ s (l .inv .2 ∙ every-stop isDigit s (l .i) (omega arith) (digit-high _ (omega arith))))
+    (sym (not-digits _ s (l .inv .2 ∙ every-stop isDigit s (l .i) (omega arith) (digit-high _ (omega arith)))), refl)
 
 returns-3 : tie.Need-returns-3 Inv-loop μ-loop
 returns-3 c =
     let l = c .before .before .before .before .before .before .loop in
     let s = c .before .before .before .before .before .before .before .before .args .s .now in
     let more = value-le (l .v * 10 + (getD s (l .i) 0 - 48)) (drop (l .i + 1) s) in
-    sym (too-high _ s (omega (arith, l .inv .1, value-step (l .v) s (l .i) (omega arith))))
+    (sym (too-high _ s (omega (arith, l .inv .1, value-step (l .v) s (l .i) (omega arith)))), refl)
 
 loop-again : tie.Need-loop-again Inv-loop μ-loop
 loop-again c =
@@ -48,8 +48,7 @@ returns-4 : tie.Need-returns-4 Inv-loop μ-loop
 returns-4 c =
     let l = c .before .loop in
     let s = c .before .before .before .args .s .now in
-    sym
-    (digits-read _ s (l .v) (l .inv .2 ∙ every-end isDigit s (l .i) (omega arith)) (l .inv .1 ∙ value-end (l .v) s (l .i) (omega arith)) (omega arith))
+    (sym (digits-read _ s (l .v) (l .inv .2 ∙ every-end isDigit s (l .i) (omega arith)) (l .inv .1 ∙ value-end (l .v) s (l .i) (omega arith)) (omega arith)), refl)
 
 pub read-digits-spec : {M : Type 1} → statement M
 read-digits-spec =
