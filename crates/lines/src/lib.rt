@@ -33,6 +33,7 @@ fn keep(line: &mut [u8], held: usize, bytes: &[u8]) -> usize
 pub fn take_line(piece: &[u8], from: usize, line: &mut [u8], held: usize) -> Taken
     requires { ⌜ (from ≤ length (now piece)) × (length (now line) ≡ 2048) × (held ≤ 2048) ⌝ }
     ensures { λ r. ⌜ Takes (now (piece .entry)) from (now (line .entry)) held r (now (line .exit)) ⌝ }
+    ensures { λ _. ⌜ now (piece .exit) ≡ now (piece .entry) ⌝ }
 {
     let end = text::find(piece, from, 10);
     let size = keep(line, held, &piece[from..end]);

@@ -1,4 +1,4 @@
-use mathlib.Core.Path.{sym}
+use mathlib.Core.Path.{refl, sym}
 use native.Mathlib.Omega.{arith}
 use borrow.Author.Needs.{needs}
 use lib.ListN.{drop, length-drop}
@@ -13,13 +13,13 @@ part-keep-end c =
     omega (arith, c .before .find .ensures .0, before-le 10 (drop (a .from) (a .piece .now)), length-drop (a .from) (a .piece .now))
 
 returns : tie.Need-returns
-returns c = takes (c .before .before .before .before .before .before .find .ensures .0) (c .before .before .before .keep .ensures) (sym (found-cut _ _ _ (omega arith)))
+returns c = (takes (c .before .before .before .before .before .before .find .ensures .0) (c .before .before .before .keep .ensures) (sym (found-cut _ _ _ (omega arith))), refl)
 
 returns-2 : tie.Need-returns-2
-returns-2 c = takes (c .before .before .before .before .before .before .before .find .ensures .0) (c .before .before .before .before .keep .ensures) (sym (found-long _ _ _ (omega arith) (omega arith)))
+returns-2 c = (takes (c .before .before .before .before .before .before .before .find .ensures .0) (c .before .before .before .before .keep .ensures) (sym (found-long _ _ _ (omega arith) (omega arith))), refl)
 
 returns-3 : tie.Need-returns-3
-returns-3 c = takes (c .before .before .before .before .before .before .before .find .ensures .0) (c .before .before .before .before .keep .ensures) (sym (found-whole _ _ _ (omega arith) (omega arith)))
+returns-3 c = (takes (c .before .before .before .before .before .before .before .find .ensures .0) (c .before .before .before .before .keep .ensures) (sym (found-whole _ _ _ (omega arith) (omega arith))), refl)
 
 pub take-line-spec : {M : Type 1} → statement M
 take-line-spec =
