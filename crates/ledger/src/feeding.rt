@@ -181,6 +181,7 @@ fn feed_line(
 pub fn feed(stream: Stream, piece: &[u8], line: &mut [u8], out: &mut [u8], at: usize) -> Fed
     requires { ⌜ Ready stream (now line) × (at + 24 * length (now piece) + 96 ≤ length (now out)) ⌝ }
     ensures { λ r. ⌜ Feeds stream (now (line .entry)) (now (piece .entry)) (now (out .entry)) at r (now (line .exit)) (now (out .exit)) ⌝ }
+    ensures { λ _. ⌜ now (piece .exit) ≡ now (piece .entry) ⌝ }
 {
     let mut s = stream;
     let mut end = at;

@@ -47,6 +47,7 @@ fn judge_in(header: Header, books: Books, line: &[u8], signature: &mut [u8]) -> 
 pub fn judge(header: Header, books: Books, line: &[u8]) -> Judged
     requires { ⌜ Fits header × Sound books ⌝ }
     ensures { λ r. ⌜ r ≡ caseOf header books (recordIn header (fields (now (line .entry)))) ⌝ }
+    ensures { λ _. ⌜ now (line .exit) ≡ now (line .entry) ⌝ }
 {
     let mut room = signature_room();
     let n = key::layout::signature_size(header.h1 as usize, header.h2 as usize);

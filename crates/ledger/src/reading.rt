@@ -98,6 +98,7 @@ fn full_header(line: &[u8], a: usize, b: usize, c: usize) -> Headed
 // What line 1 says.
 pub fn read_header(line: &[u8]) -> Headed
     ensures { λ r. ⌜ r ≡ headed (headIn (fields (now (line .entry)))) ⌝ }
+    ensures { λ _. ⌜ now (line .exit) ≡ now (line .entry) ⌝ }
 {
     match split(line) {
         Tabs::Two { a } => short_header(line, a),
@@ -190,6 +191,7 @@ fn read_fields(
 pub fn read_record(header: Header, line: &[u8], signature: &mut [u8]) -> Entry
     requires { ⌜ Fits header × (length (now signature) ≡ signatureSize (header .h1) (header .h2)) ⌝ }
     ensures { λ r. ⌜ Reads (recordIn header (fields (now (line .entry)))) (now (signature .entry)) r (now (signature .exit)) ⌝ }
+    ensures { λ _. ⌜ now (line .exit) ≡ now (line .entry) ⌝ }
 {
     match split(line) {
         Tabs::Five { a, b, c, d } => read_fields(header, line, a, b, c, d, signature),

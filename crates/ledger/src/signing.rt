@@ -29,6 +29,7 @@ fn message_room() -> [u8; 56]
 // Whether the record's signature is accepted under the header.
 pub fn is_accepted(header: Header, r: Record, signature: &[u8]) -> bool
     ensures { λ yes. ⌜ yes ≡ accepts header r (now (signature .entry)) ⌝ }
+    ensures { λ _. ⌜ now (signature .exit) ≡ now (signature .entry) ⌝ }
 {
     let mut room = message_room();
     let n = put_message(r, &mut room);

@@ -1,4 +1,5 @@
 // Where the fields of a line end.
+ghost use mathlib.Core.Path.{_≡_};
 ghost use Rattle.ledger.specs.Splitting.{Splits};
 
 pub enum Tabs {
@@ -22,6 +23,7 @@ pub enum Tabs {
 // The tabs of a line of two, four or five fields.
 pub fn split(line: &[u8]) -> Tabs
     ensures { λ r. ⌜ Splits (now (line .entry)) r ⌝ }
+    ensures { λ _. ⌜ now (line .exit) ≡ now (line .entry) ⌝ }
 {
     let n = line.len();
     let a = text::find(line, 0, 9);

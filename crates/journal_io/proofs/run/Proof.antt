@@ -39,15 +39,15 @@ part-write-all-end : tie.Need-part-write-all-end Inv-loop μ-loop
 part-write-all-end c =
     let f = c .before .before .before .before .before .before .before .feed in
     let l = c .before .before .before .before .before .before .before .before .before .before .before .before .before .before .before .before .before .before .before .loop in
-    omega (arith, puts-within (omega (arith, l .inv .5, l .inv .6)) (f .kept .1 .1 .1 .0) (f .ensures .puts), f .kept .1 .1 .1 .0)
+    omega (arith, puts-within (omega (arith, l .inv .5, l .inv .6)) (f .kept .1 .1 .1 .0) (f .ensures .0 .puts), f .kept .1 .1 .1 .0)
 
 loop-again : tie.Need-loop-again Inv-loop μ-loop
 loop-again c =
     let f = c .before .before .before .before .before .before .before .feed in
     let r = c .before .before .before .before .before .before .before .before .before .before .before .before .before .before .before .before .read in
     let l = c .before .before .before .before .before .before .before .before .before .before .before .before .before .before .before .before .before .before .before .loop in (
-      f .ensures .ready,
-      omega (arith, f .ensures .ready .room, l .inv .0 .room, l .inv .1),
+      f .ensures .0 .ready,
+      omega (arith, f .ensures .0 .ready .room, l .inv .0 .room, l .inv .1),
       omega (arith, r .kept .1 .0, l .inv .2),
       omega (arith, f .kept .1 .1 .1 .0, l .inv .3),
       omega (arith, r .kept .1 .0, l .inv .4),

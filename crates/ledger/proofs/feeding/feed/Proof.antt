@@ -47,7 +47,7 @@ same-length-2 c = c .before .loop .inv .2
 returns : tie.Need-returns Inv-loop μ-loop
 returns c =
     let s = c .before .before .before .before .before in
-    feeds-whole (s .args .stream) (s .args .line .now) (s .args .piece .now) (s .args .out .now) (s .args .at) (omega arith) (c .before .loop .inv .0)
+    (feeds-whole (s .args .stream) (s .args .line .now) (s .args .piece .now) (s .args .out .now) (s .args .at) (omega arith) (c .before .loop .inv .0), refl)
 
 pub feed-spec : {M : Type 1} → statement M
 feed-spec =

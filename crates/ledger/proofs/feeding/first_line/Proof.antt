@@ -13,14 +13,14 @@ returns : tie.Need-returns
 unfolding headOf
 returns c =
     let a = c .before .before .before .before .before .before .before .before .before .args in
-    writes-like (a .header) long (whole (a .line .now)) refl (was-wrong (headIn (fields (a .line .now))) (c .before .before .before .before .before .before .read-header .ensures) (c .before .before .before .before .enum-told2 .given .1))
+    writes-like (a .header) long (whole (a .line .now)) refl (was-wrong (headIn (fields (a .line .now))) (c .before .before .before .before .before .before .read-header .ensures .0) (c .before .before .before .before .enum-told2 .given .1))
     (c .before .before .wrong-line .ensures)
 
 returns-2 : tie.Need-returns-2
 unfolding headOf
 returns-2 c =
     let a = c .before .before .before .before .before .before .before .args in
-    let e = was-right (headIn (fields (a .line .now))) (c .before .before .before .before .read-header .ensures) (c .before .before .enum-told .given .1) in
+    let e = was-right (headIn (fields (a .line .now))) (c .before .before .before .before .read-header .ensures .0) (c .before .before .enum-told .given .1) in
     writes-right (a .header) (whole (a .line .now)) e (head-fits (fields (a .line .now)) e) (c .before .start .ensures) (c .between .ensures)
 
 pub first-line-spec : {M : Type 1} → statement M

@@ -21,14 +21,14 @@ report-requires c κs =
     let s = c .before .before .before .before .before .before .before in
     let k = subst (Kept (s .args .header)) (c .before .before .before .phase .given .1) (s .pre .0) in
     let j = judged-adds (s .args .header) (c .before .before .before .phase .given .0 .0) (whole (s .args .line .now)) in
-    (k .0, k .1, subst Adds (sym (c .before .judge .ensures)) j, omega (arith, s .pre .1))
+    (k .0, k .1, subst Adds (sym (c .before .judge .ensures .0)) j, omega (arith, s .pre .1))
 
 returns : tie.Need-returns
 returns c = writes-in (c .before .before .before .before .enum-told .given .1) (c .before .before .first-line .ensures)
 
 returns-2 : tie.Need-returns-2
 unfolding judged
-returns-2 c = writes-in (c .before .before .before .before .before .before .phase .given .1) (c .before .before .report .ensures (whole (c .before .before .before .before .before .before .before .before .before .before .args .line .now)) (sym (c .before .before .before .before .judge .ensures)))
+returns-2 c = writes-in (c .before .before .before .before .before .before .phase .given .1) (c .before .before .report .ensures (whole (c .before .before .before .before .before .before .before .before .before .before .args .line .now)) (sym (c .before .before .before .before .judge .ensures .0)))
 
 returns-3 : tie.Need-returns-3
 returns-3 c = writes-in (c .before .enum-told2 .given .1) (writes-over _ _ (c .between .ensures))

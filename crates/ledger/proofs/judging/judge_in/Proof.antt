@@ -7,23 +7,23 @@ use Rattle.ledger.proofs.judging.judge_in.Statement.{statement}
 use Rattle.ledger.proofs.judging.judge_in.Tie as tie
 
 returns : tie.Need-returns
-returns c = case-M _ _ (found-none _ (c .before .before .before .before .read-record .ensures) (c .enum-told .given .1))
+returns c = case-M _ _ (found-none _ (c .before .before .before .before .read-record .ensures .0) (c .enum-told .given .1))
 
 returns-2 : tie.Need-returns-2
-returns-2 c = case-O _ _ (found-signed _ (c .before .before .before .before .before .before .before .before .read-record .ensures) (c .before .before .before .before .entry .given .1)) (omega arith)
+returns-2 c = case-O _ _ (found-signed _ (c .before .before .before .before .before .before .before .before .read-record .ensures .0) (c .before .before .before .before .entry .given .1)) (omega arith)
 
 returns-3 : tie.Need-returns-3
-returns-3 c = case-S _ _ (found-signed _ (c .before .before .before .before .before .before .before .before .before .before .before .read-record .ensures) (c .before .before .before .before .before .before .before .entry .given .1)) (omega arith) (c .if2 .taken)
+returns-3 c = case-S _ _ (found-signed _ (c .before .before .before .before .before .before .before .before .before .before .before .read-record .ensures .0) (c .before .before .before .before .before .before .before .entry .given .1)) (omega arith) (c .if2 .taken)
 
 returns-4 : tie.Need-returns-4
 returns-4 c =
-    case-G _ _ (found-signed _ (c .before .before .before .before .before .before .before .before .before .before .before .before .before .before .read-record .ensures) (c .before .before .before .before .before .before .before .before .before .before .entry .given .1)) (omega arith) (omega arith)
-    (sym (c .before .is-accepted .ensures) ∙ c .if3 .taken)
+    case-G _ _ (found-signed _ (c .before .before .before .before .before .before .before .before .before .before .before .before .before .before .read-record .ensures .0) (c .before .before .before .before .before .before .before .before .before .before .entry .given .1)) (omega arith) (omega arith)
+    (sym (c .before .is-accepted .ensures .0) ∙ c .if3 .taken)
 
 returns-5 : tie.Need-returns-5
 returns-5 c =
-    case-B _ _ (found-signed _ (c .before .before .before .before .before .before .before .before .before .before .before .before .before .before .read-record .ensures) (c .before .before .before .before .before .before .before .before .before .before .entry .given .1)) (omega arith) (omega arith)
-    (sym (c .before .is-accepted .ensures) ∙ c .if3 .left)
+    case-B _ _ (found-signed _ (c .before .before .before .before .before .before .before .before .before .before .before .before .before .before .read-record .ensures .0) (c .before .before .before .before .before .before .before .before .before .before .entry .given .1)) (omega arith) (omega arith)
+    (sym (c .before .is-accepted .ensures .0) ∙ c .if3 .left)
 
 pub judge-in-spec : {M : Type 1} → statement M
 judge-in-spec =

@@ -1,4 +1,4 @@
-use mathlib.Core.Path.{sym, ap, _∙_}
+use mathlib.Core.Path.{refl, sym, ap, _∙_}
 use borrow.Author.Needs.{needs}
 use Rattle.ledger.specs.FirstLine.{headed}
 use Rattle.ledger.proofs.Fielded.{split-as}
@@ -7,16 +7,16 @@ use Rattle.ledger.proofs.reading.read_header.Statement.{statement}
 use Rattle.ledger.proofs.reading.read_header.Tie as tie
 
 short-header-requires : tie.Need-short-header-requires
-short-header-requires c κs = split-as _ (c .before .a .given .1) (c .before .before .before .split .ensures)
+short-header-requires c κs = split-as _ (c .before .a .given .1) (c .before .before .before .split .ensures .0)
 
 full-header-requires : tie.Need-full-header-requires
-full-header-requires c κs = split-as _ (c .before .a2 .given .1) (c .before .before .before .split .ensures)
+full-header-requires c κs = split-as _ (c .before .a2 .given .1) (c .before .before .before .split .ensures .0)
 
 returns-3 : tie.Need-returns-3
-returns-3 c = c .wrong .ensures ∙ sym (ap headed (head-five (split-as _ (c .before .enum-told .given .1) (c .before .before .before .split .ensures) .are)))
+returns-3 c = (c .wrong .ensures ∙ sym (ap headed (head-five (split-as _ (c .before .enum-told .given .1) (c .before .before .before .split .ensures .0) .are))), refl)
 
 returns-4 : tie.Need-returns-4
-returns-4 c = c .wrong2 .ensures ∙ sym (ap headed (head-other _ (split-as _ (c .before .enum-told2 .given .1) (c .before .before .before .split .ensures))))
+returns-4 c = (c .wrong2 .ensures ∙ sym (ap headed (head-other _ (split-as _ (c .before .enum-told2 .given .1) (c .before .before .before .split .ensures .0)))), refl)
 
 pub read-header-spec : {M : Type 1} → statement M
 read-header-spec =
