@@ -7,6 +7,7 @@ use libc::STDOUT_FILENO;
 // The digest of bytes, and zeros where they are too many to be hashed.
 pub fn digest(bytes: &[u8]) -> [u8; 32]
     ensures { λ r. ⌜ r ≡ hashOutcome (now (bytes .entry)) (replicate 32 0) .out ⌝ }
+    ensures { λ _. ⌜ now (bytes .exit) ≡ now (bytes .entry) ⌝ }
 {
     let mut out = [0u8; 32];
     blake2b::hash(bytes, &mut out);
