@@ -5,12 +5,12 @@
 #include <stdio.h>
 #include <stdlib.h>
 #include <string.h>
-#include <time.h>
 
 #include <sodium.h>
 #include <valgrind/callgrind.h>
 
 #include "rfc7693_blake2b.h"
+#include "stopwatch.h"
 
 /* The proved functions. The first is offered in kes.h; the others are there for the race alone. */
 uint32_t kes_hash(const uint8_t *message, size_t message_len, uint8_t *digest, size_t digest_len);
@@ -100,13 +100,6 @@ static void count_all(void)
                 count(h, sizes[s]);
 }
 
-static double now(void)
-{
-    struct timespec t;
-    clock_gettime(CLOCK_MONOTONIC, &t);
-    return 1e9 * t.tv_sec + t.tv_nsec;
-}
-
 /* Nanoseconds of one call, over so many calls that the clock's own cost vanishes. */
 static double timed(int h, size_t len)
 {
@@ -127,18 +120,6 @@ static void time_all(void)
                     taken[s][h][round] = timed(h, sizes[s]);
 }
 
-static int compare(const void *a, const void *b)
-{
-    double x = *(const double *)a, y = *(const double *)b;
-    return (x > y) - (x < y);
-}
-
-static double median(double times[ROUNDS])
-{
-    qsort(times, ROUNDS, sizeof times[0], compare);
-    return times[ROUNDS / 2];
-}
-
 static void print_row(int s, int h)
 {
     long instructions = 0;
@@ -146,18 +127,16 @@ static void print_row(int s, int h)
         fprintf(stderr, "bench: an instruction count is missing\n");
         exit(1);
     }
-    double ns = median(taken[s][h]);
-    printf("%5zu  %-10s %9.1f %12.2f %10.2f %13ld\n", sizes[s], hashes[h].name, ns, ns / median(taken[s][LIBSODIUM]),
-           ns / median(taken[s][REFERENCE]), instructions);
+    double ns = median(taken[s][h], ROUNDS);
+    printf("%5zu  %-10s %9.1f %12.2f %10.2f %13ld\n", sizes[s], hashes[h].name, ns, ns / median(taken[s][LIBSODIUM], ROUNDS),
+           ns / median(taken[s][REFERENCE], ROUNDS), instructions);
 }
 
 /* The load is told because a busy machine was seen to slow scalar code more than libsodium's vector code. */
 static void print_heading(void)
 {
-    double load = 0;
-    getloadavg(&load, 1);
     printf("all agree on 0 to %d bytes; libsodium %s; medians of %d rounds, interleaved; load %.1f\n\n", LIMIT,
-           sodium_version_string(), ROUNDS, load);
+           sodium_version_string(), ROUNDS, load());
     printf("bytes  hash              ns  / libsodium  / RFC 7693  instructions\n");
 }
 

@@ -1,0 +1,37 @@
+/* What every race here needs: a clock, the median of its times, and the machine's load. Needs _DEFAULT_SOURCE. */
+#ifndef STOPWATCH_H
+#define STOPWATCH_H
+
+#include <stdlib.h>
+#include <time.h>
+
+/* Nanoseconds, from some fixed moment on. */
+static inline double now(void)
+{
+    struct timespec t;
+    clock_gettime(CLOCK_MONOTONIC, &t);
+    return 1e9 * (double)t.tv_sec + (double)t.tv_nsec;
+}
+
+static inline int by_size(const void *a, const void *b)
+{
+    double x = *(const double *)a, y = *(const double *)b;
+    return (x > y) - (x < y);
+}
+
+/* Sorts the times. */
+static inline double median(double *times, size_t n)
+{
+    qsort(times, n, sizeof times[0], by_size);
+    return times[n / 2];
+}
+
+/* Processes that ran or wanted to, over the last minute. */
+static inline double load(void)
+{
+    double average = 0;
+    getloadavg(&average, 1);
+    return average;
+}
+
+#endif
