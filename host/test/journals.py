@@ -1,6 +1,6 @@
 #!/usr/bin/env python3
 """Random journals made with real keys, whole and damaged, judged by build/journal and by the independent model, byte for byte.
-Reproducible: journals.py [SEED [JOURNALS]]. Needs desk/build before."""
+Reproducible: journals.py [SEED [JOURNALS [PROGRAM]]], where PROGRAM is judged in place of build/journal. Needs desk/build before."""
 import pathlib
 import random
 import re
@@ -82,11 +82,12 @@ def drawn(draw, days):
 def main():
     seed = int(sys.argv[1]) if len(sys.argv) > 1 else 1
     count = int(sys.argv[2]) if len(sys.argv) > 2 else 1000
+    program = sys.argv[3] if len(sys.argv) > 3 else ROOT / "build" / "journal"
     began, draw, judge, seen = time.time(), random.Random(seed), Judge(SCHEME), {}
     days = [Day(draw, h1, h2, 6) for h1, h2 in HEIGHTS]
     for n in range(count):
         data = drawn(draw, days)
-        wrote = subprocess.run([ROOT / "build" / "journal"], input=data, stdout=subprocess.PIPE, check=True).stdout
+        wrote = subprocess.run([program], input=data, stdout=subprocess.PIPE, check=True).stdout
         expected = judge.output(data)
         if wrote != expected:
             sys.exit(f"journals: journal {n} of seed {seed} is judged otherwise\n{data!r}\nprogram {wrote!r}\nmodel {expected!r}")

@@ -1,0 +1,177 @@
+/* agree [KEYS]: lives of random keys, in the proved library and in its plain peer. Every answer and every byte that is left must be the
+ * same, on good requests and on spoiled ones. Always the same lives. */
+#include <stdio.h>
+#include <stdlib.h>
+#include <string.h>
+
+#include <sodium.h>
+
+#include "schemes.h"
+
+enum { MAKE, READ_KEY, MOVE, SIGN, VERIFY, CALLS };
+static const char *const names[CALLS] = {"make", "read key", "move", "sign", "verify"};
+
+/* A call's numbers and lengths, and the bytes lent, each buffer with room for one byte too many. */
+struct request {
+    uint64_t h1, h2, step;
+    size_t seed_len, table_len, key_len, message_len, signature_len;
+    uint8_t seed[KES_SEED_SIZE + 1], table[KES_TABLE_MAX + 1], key[KES_KEY_SIZE + 1], message[KES_MESSAGE_MAX + 1],
+        signature[KES_SIGNATURE_MAX + 1];
+};
+
+static struct request lent;
+static unsigned long seen[KES_NOT_ACCEPTED + 1];
+
+/* SplitMix64: draws that are the same everywhere. */
+static uint64_t draw(uint64_t below)
+{
+    static uint64_t state;
+    uint64_t z = state += 0x9e3779b97f4a7c15;
+    z = (z ^ z >> 30) * 0xbf58476d1ce4e5b9;
+    z = (z ^ z >> 27) * 0x94d049bb133111eb;
+    return (z ^ z >> 31) % below;
+}
+
+static void draw_bytes(uint8_t *bytes, size_t len)
+{
+    size_t i;
+    for (i = 0; i < len; i++)
+        bytes[i] = (uint8_t)draw(256);
+}
+
+static uint64_t ask(const struct scheme *s, int call, struct request *r)
+{
+    switch (call) {
+    case MAKE: return s->make(r->h1, r->h2, r->seed, r->seed_len, r->table, r->table_len);
+    case READ_KEY: return s->read_key(r->table, r->table_len, r->key, r->key_len);
+    case MOVE: return s->move(r->table, r->table_len, r->step);
+    case SIGN: return s->sign(r->table, r->table_len, r->message, r->message_len, r->signature, r->signature_len);
+    default:
+        return s->verify(r->h1, r->h2, r->key, r->key_len, r->step, r->message, r->message_len, r->signature, r->signature_len);
+    }
+}
+
+/* Asks both, each over bytes of its own, and goes on with what the library left. */
+static uint32_t both(int call)
+{
+    static struct request peers;
+    uint64_t answer, peer;
+    peers = lent;
+    answer = ask(&library, call, &lent);
+    peer = ask(&plain, call, &peers);
+    if (answer != peer || memcmp(&lent, &peers, sizeof lent) != 0) {
+        fprintf(stderr, "agree: library and plain C differ: %s at (%u,%u), step %u: %llx and %llx\n", names[call], (unsigned)lent.h1,
+                (unsigned)lent.h2, (unsigned)lent.step, (unsigned long long)answer, (unsigned long long)peer);
+        exit(1);
+    }
+    seen[kes_number(answer)]++;
+    return kes_number(answer);
+}
+
+/* One wrong number, one wrong length or one changed byte. */
+static void spoil(void)
+{
+    uint64_t *numbers[3] = {&lent.h1, &lent.h2, &lent.step};
+    size_t *lengths[5] = {&lent.seed_len, &lent.table_len, &lent.key_len, &lent.message_len, &lent.signature_len};
+    uint8_t *bytes[4] = {lent.table, lent.key, lent.message, lent.signature};
+    size_t sizes[4] = {lent.table_len, lent.key_len, lent.message_len, lent.signature_len};
+    uint64_t which = draw(16);
+    if (which < 3)
+        *numbers[which] = draw(2) ? draw(20) : UINT64_MAX - draw(20);
+    else if (which < 8)
+        *lengths[which - 3] = draw(2) ? draw(8) : *lengths[which - 3] + 1;
+    else if (sizes[which % 4] != 0)
+        bytes[which % 4][which < 12 ? draw(sizes[which % 4]) : draw(1 + (sizes[which % 4] - 1) / 8)] ^= (uint8_t)(1 + draw(255));
+}
+
+/* Asks spoiled requests, moves mostly to a later step, and puts everything back. */
+static void spoiled(int times)
+{
+    static struct request good;
+    good = lent;
+    for (; times > 0; times--) {
+        int call = (int)draw(CALLS);
+        if (call == MOVE)
+            lent.step += draw(kes_steps(lent.h1, lent.h2) - lent.step);
+        spoil();
+        both(call);
+        lent = good;
+    }
+}
+
+static void must(int call)
+{
+    if (both(call) != KES_DONE) {
+        fprintf(stderr, "agree: a good %s is refused\n", names[call]);
+        exit(1);
+    }
+}
+
+static void start(uint64_t h1, uint64_t h2)
+{
+    lent = (struct request){h1, h2, 0, KES_SEED_SIZE, kes_table_size(h1, h2), KES_KEY_SIZE, 0, kes_signature_size(h1, h2), {0}, {0}, {0}, {0}, {0}};
+    draw_bytes(lent.seed, KES_SEED_SIZE);
+    must(MAKE);
+    must(READ_KEY);
+    draw_bytes(lent.seed, KES_SEED_SIZE);
+}
+
+static void sign_and_verify(void)
+{
+    lent.message_len = draw(20) == 0 ? KES_MESSAGE_MAX : draw(200);
+    draw_bytes(lent.message, lent.message_len);
+    must(SIGN);
+    must(VERIFY);
+}
+
+static void go_to(uint64_t step)
+{
+    lent.step = step;
+    must(MOVE);
+    sign_and_verify();
+}
+
+/* From step 0 to the last in random strides, with spoiled requests at every step on the way. */
+static void live(uint64_t h1, uint64_t h2)
+{
+    uint64_t last = kes_steps(h1, h2) - 1;
+    start(h1, h2);
+    sign_and_verify();
+    spoiled(12);
+    while (lent.step < last) {
+        go_to(lent.step + 1 + draw(1 + draw(last - lent.step)));
+        spoiled(12);
+    }
+}
+
+/* The moves that are raced: 0 to 1, and from 0 to the last step. */
+static void live_raced(uint64_t h1, uint64_t h2)
+{
+    static struct request fresh;
+    start(h1, h2);
+    sign_and_verify();
+    fresh = lent;
+    go_to(1);
+    lent = fresh;
+    go_to(kes_steps(h1, h2) - 1);
+}
+
+int main(int argc, char **argv)
+{
+    int keys = argc > 1 ? atoi(argv[1]) : 100, i;
+    if (sodium_init() < 0)
+        return 1;
+    for (i = 0; i < keys; i++)
+        live(draw(5), draw(5));
+    for (i = 0; i < HEIGHTS; i++)
+        live_raced(heights[i].h1, heights[i].h2);
+    for (i = 0; i <= KES_NOT_ACCEPTED; i++)
+        if (seen[i] != 0)
+            printf("agree: library and plain C both answer %d: %lu times\n", i, seen[i]);
+        else if (i <= KES_TOO_LONG || i == KES_NOT_ACCEPTED) {
+            fprintf(stderr, "agree: no request was answered %d\n", i);
+            return 1;
+        }
+    printf("agree: in %d lives of keys every answer and every byte left is the same\n", keys + HEIGHTS);
+    return 0;
+}

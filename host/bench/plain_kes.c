@@ -1,0 +1,254 @@
+#include <string.h>
+
+#include <sodium.h>
+
+#include "kes.h"
+#include "plain_kes.h"
+
+enum { NODE = 32, LEVEL = 3 * NODE, LEAF = 2 * NODE, SIGNED = 3 * NODE, HEADER = 8 };
+
+struct header {
+    size_t h1, h2, step;
+};
+
+/* Where the table's parts begin. */
+static size_t tree_size(size_t h) { return LEVEL * h + LEAF; }
+static size_t sum_size(size_t h) { return SIGNED + NODE * h; }
+static size_t vouched_at(size_t h1) { return HEADER + tree_size(h1); }
+static size_t next_at(size_t h1) { return vouched_at(h1) + sum_size(h1); }
+static size_t child_at(size_t h1) { return next_at(h1) + NODE; }
+
+static void hash(const uint8_t *bytes, size_t len, uint8_t *out)
+{
+    crypto_generichash(out, NODE, bytes, len, NULL, 0);
+}
+
+/* One of the two seeds that come from a seed; out may be that seed. */
+static void side(uint8_t which, const uint8_t *seed, uint8_t *out)
+{
+    uint8_t bytes[1 + NODE];
+    bytes[0] = which;
+    memcpy(bytes + 1, seed, NODE);
+    hash(bytes, sizeof bytes, out);
+}
+
+static void public_key(const uint8_t *secret, uint8_t *vk)
+{
+    uint8_t pair[2 * NODE];
+    crypto_sign_seed_keypair(vk, pair, secret);
+    sodium_memzero(pair, sizeof pair);
+}
+
+static void subtree_hash(const uint8_t *seed, size_t h, uint8_t *out)
+{
+    uint8_t below[NODE], hashes[2 * NODE];
+    if (h == 0) {
+        public_key(seed, below);
+        hash(below, NODE, out);
+        return;
+    }
+    side(0, seed, below);
+    subtree_hash(below, h - 1, hashes);
+    side(1, seed, below);
+    subtree_hash(below, h - 1, hashes + NODE);
+    hash(hashes, sizeof hashes, out);
+}
+
+/* Writes the tree that grows from a seed, at step t, and its root. The half beside the path is hashed, the other grown: one pass. */
+static void grow(const uint8_t *seed, size_t h, size_t t, uint8_t *tree, uint8_t *root)
+{
+    uint8_t left[NODE];
+    size_t half = (size_t)1 << h >> 1;
+    if (h == 0) {
+        memcpy(tree, seed, NODE);
+        public_key(seed, tree + NODE);
+        hash(tree + NODE, NODE, root);
+        return;
+    }
+    side(0, seed, left);
+    side(1, seed, tree);
+    if (t < half) {
+        grow(left, h - 1, t, tree + LEVEL, tree + NODE);
+        subtree_hash(tree, h - 1, tree + 2 * NODE);
+    } else {
+        subtree_hash(left, h - 1, tree + NODE);
+        grow(tree, h - 1, t - half, tree + LEVEL, tree + 2 * NODE);
+        memset(tree, 0, NODE);
+    }
+    hash(tree + NODE, 2 * NODE, root);
+}
+
+static void root_of(const uint8_t *tree, size_t h, uint8_t *root)
+{
+    hash(tree + NODE, h == 0 ? NODE : 2 * NODE, root);
+}
+
+/* Answers the count of the rules, by which the move inside the new half grows t more. */
+static size_t move_tree(uint8_t *tree, size_t h, size_t from, size_t to)
+{
+    size_t bit = 63 - (size_t)__builtin_clzll(from ^ to), half = (size_t)1 << bit, t = to % half;
+    uint8_t *level = tree + LEVEL * (h - 1 - bit), unused[NODE];
+    grow(level, bit, t, level + LEVEL, unused);
+    memset(level, 0, NODE);
+    return half + t;
+}
+
+/* The public key is made from the secret, never taken from the table: with another one a signature would give the secret away. */
+static void sum_sign(const uint8_t *tree, size_t h, size_t t, const uint8_t *message, size_t len, uint8_t *out)
+{
+    const uint8_t *leaf = tree + LEVEL * h;
+    uint8_t made[NODE], pair[2 * NODE];
+    size_t bit;
+    crypto_sign_seed_keypair(made, pair, leaf);
+    crypto_sign_detached(out + NODE, NULL, message, len, pair);
+    sodium_memzero(pair, sizeof pair);
+    memcpy(out, leaf + NODE, NODE);
+    for (bit = 0; bit < h; bit++) {
+        const uint8_t *level = tree + LEVEL * (h - 1 - bit);
+        memcpy(out + SIGNED + NODE * bit, level + (t >> bit & 1 ? NODE : 2 * NODE), NODE);
+    }
+}
+
+static int sum_verify(const uint8_t *root, size_t h, size_t t, const uint8_t *message, size_t len, const uint8_t *signature)
+{
+    uint8_t x[NODE], joined[2 * NODE];
+    size_t bit;
+    hash(signature, NODE, x);
+    for (bit = 0; bit < h; bit++) {
+        size_t own = NODE * (t >> bit & 1);
+        memcpy(joined + own, x, NODE);
+        memcpy(joined + (NODE - own), signature + SIGNED + NODE * bit, NODE);
+        hash(joined, sizeof joined, x);
+    }
+    return memcmp(x, root, NODE) == 0 && crypto_sign_verify_detached(signature + NODE, message, len, signature) == 0;
+}
+
+static int read_header(const uint8_t *table, size_t len, struct header *found)
+{
+    if (len < HEADER || !KES_HEIGHTS_FIT(table[0], table[1]) || table[2] != 0 || table[3] != 0)
+        return 0;
+    found->h1 = table[0];
+    found->h2 = table[1];
+    found->step = table[4] | (size_t)table[5] << 8 | (size_t)table[6] << 16 | (size_t)table[7] << 24;
+    return len == kes_table_size(found->h1, found->h2) && found->step < kes_steps(found->h1, found->h2);
+}
+
+static void put_header(uint8_t *table, size_t h1, size_t h2, size_t step)
+{
+    size_t i;
+    table[0] = (uint8_t)h1;
+    table[1] = (uint8_t)h2;
+    table[2] = table[3] = 0;
+    for (i = 0; i < 4; i++)
+        table[4 + i] = (uint8_t)(step >> 8 * i);
+}
+
+static uint64_t done(size_t count) { return (uint64_t)count << 32 | KES_DONE; }
+
+/* Grows the child of a stored seed, and lets the parent's leaf sign its root for the last time. */
+static void enter(uint8_t *table, size_t h1, size_t t1, const uint8_t *stored, size_t h2, size_t t2)
+{
+    uint8_t seed[NODE], root[NODE], *parent = table + HEADER;
+    side(0, stored, seed);
+    grow(seed, h2, t2, table + child_at(h1), root);
+    side(1, stored, table + next_at(h1));
+    sum_sign(parent, h1, t1, root, NODE, table + vouched_at(h1));
+    memset(parent + LEVEL * h1, 0, NODE);
+}
+
+uint64_t plain_make(uint64_t h1, uint64_t h2, uint8_t *seed, size_t seed_len, uint8_t *table, size_t table_len)
+{
+    uint8_t parent[NODE], stored[NODE], unused[NODE];
+    if (!KES_HEIGHTS_FIT(h1, h2))
+        return KES_HEIGHT;
+    if (seed_len != KES_SEED_SIZE)
+        return KES_SEED_OR_KEY;
+    if (table_len != kes_table_size(h1, h2))
+        return KES_LENGTH;
+    side(0, seed, parent);
+    side(1, seed, stored);
+    put_header(table, h1, h2, 0);
+    grow(parent, h1, 0, table + HEADER, unused);
+    enter(table, h1, 0, stored, h2, 0);
+    memset(seed, 0, NODE);
+    return done(((size_t)1 << h1) + ((size_t)1 << h2));
+}
+
+uint32_t plain_read_key(const uint8_t *table, size_t table_len, uint8_t *key, size_t key_len)
+{
+    struct header at;
+    if (!read_header(table, table_len, &at))
+        return KES_TABLE;
+    if (key_len != KES_KEY_SIZE)
+        return KES_LENGTH;
+    root_of(table + HEADER, at.h1, key);
+    return KES_DONE;
+}
+
+/* The parent moves, and a new child grows. A parent step that is jumped over still advances the stored seed. */
+static size_t move_parent(uint8_t *table, struct header at, size_t step)
+{
+    size_t t1 = at.step >> at.h2, new_t1 = step >> at.h2, t2 = step % ((size_t)1 << at.h2), jumped, count;
+    uint8_t stored[NODE];
+    memcpy(stored, table + next_at(at.h1), NODE);
+    for (jumped = t1 + 1; jumped < new_t1; jumped++)
+        side(1, stored, stored);
+    count = move_tree(table + HEADER, at.h1, t1, new_t1);
+    enter(table, at.h1, new_t1, stored, at.h2, t2);
+    return count + ((size_t)1 << at.h2) + t2;
+}
+
+uint64_t plain_move(uint8_t *table, size_t table_len, uint64_t step)
+{
+    struct header at;
+    size_t wide, count;
+    if (!read_header(table, table_len, &at))
+        return KES_TABLE;
+    if (step >= kes_steps(at.h1, at.h2))
+        return KES_PAST_END;
+    if (step <= at.step)
+        return KES_NOT_LATER;
+    wide = (size_t)1 << at.h2;
+    if (step / wide == at.step / wide)
+        count = move_tree(table + child_at(at.h1), at.h2, at.step % wide, step % wide);
+    else
+        count = move_parent(table, at, step);
+    put_header(table, at.h1, at.h2, step);
+    return done(count);
+}
+
+uint32_t plain_sign(const uint8_t *table, size_t table_len, const uint8_t *message, size_t message_len, uint8_t *signature, size_t signature_len)
+{
+    struct header at;
+    const uint8_t *child;
+    if (!read_header(table, table_len, &at))
+        return KES_TABLE;
+    if (message_len > KES_MESSAGE_MAX)
+        return KES_TOO_LONG;
+    if (signature_len != kes_signature_size(at.h1, at.h2))
+        return KES_LENGTH;
+    child = table + child_at(at.h1);
+    memcpy(signature, table + vouched_at(at.h1), sum_size(at.h1));
+    sum_sign(child, at.h2, at.step % ((size_t)1 << at.h2), message, message_len, signature + sum_size(at.h1));
+    root_of(child, at.h2, signature + sum_size(at.h1) + sum_size(at.h2));
+    return KES_DONE;
+}
+
+uint32_t plain_verify(uint64_t h1, uint64_t h2, const uint8_t *key, size_t key_len, uint64_t step, const uint8_t *message, size_t message_len, const uint8_t *signature, size_t signature_len)
+{
+    const uint8_t *childs, *root;
+    if (!KES_HEIGHTS_FIT(h1, h2))
+        return KES_HEIGHT;
+    if (key_len != KES_KEY_SIZE)
+        return KES_SEED_OR_KEY;
+    if (signature_len != kes_signature_size(h1, h2))
+        return KES_LENGTH;
+    if (message_len > KES_MESSAGE_MAX)
+        return KES_TOO_LONG;
+    if (step >= kes_steps(h1, h2))
+        return KES_PAST_END;
+    childs = signature + sum_size(h1);
+    root = childs + sum_size(h2);
+    return sum_verify(key, h1, step >> h2, root, NODE, signature)
+        && sum_verify(root, h2, step % ((size_t)1 << h2), message, message_len, childs) ? KES_DONE : KES_NOT_ACCEPTED;
+}
