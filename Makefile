@@ -6,8 +6,8 @@ help:
 	@echo 'make test    every check there is: host tests, then the gate (rt ci)'
 	@echo 'make desk    build/: the library and programs with real Ed25519 (ED25519=sodium or openssl)'
 	@echo 'make install puts library, header, journal and man pages under PREFIX (and DESTDIR)'
-	@echo 'make bench   race the hash against libsodium and C code that follows the RFC'\''s'
 	@echo 'make fuzz    hostile input for long, against the model and coverage-guided (SEED=, SECONDS=600)'
+	@echo 'make bench   race the hash, the calls and the journal against plain C and libsodium alone'
 	@echo 'make clean   remove build/ and target/'
 
 desk:
@@ -27,9 +27,9 @@ test:
 	@rt ci
 
 bench: desk
-	@host/need gcc libsodium-dev valgrind
+	@host/need gcc libsodium-dev valgrind python3
 	@rt staticlib blake2b_race >build/obj/race.log || { cat build/obj/race.log; exit 1; }
-	@host/bench/run build/libkes.a target/staticlib/libblake2b_race.a build/libkes_sodium.a
+	@host/bench/run
 
 SECONDS ?= 600
 fuzz: desk

@@ -104,10 +104,10 @@ static void count_all(void)
 static double timed(int h, size_t len)
 {
     size_t calls = 4 * LIMIT / (len < 128 ? 128 : len);
-    double start = now();
+    double start = nanoseconds(CLOCK_MONOTONIC);
     for (size_t i = 0; i < calls; i++)
         hashes[h].of(message, len, digest);
-    return (now() - start) / calls;
+    return (nanoseconds(CLOCK_MONOTONIC) - start) / calls;
 }
 
 /* Every hash takes its turn in every round, so that what slows the machine slows them all. */

@@ -1,15 +1,15 @@
-/* What every race here needs: a clock, the median of its times, and the machine's load. Needs _DEFAULT_SOURCE. */
+/* What every race here needs: clocks, the median of their times, and the machine's load. Needs _DEFAULT_SOURCE. */
 #ifndef STOPWATCH_H
 #define STOPWATCH_H
 
 #include <stdlib.h>
 #include <time.h>
 
-/* Nanoseconds, from some fixed moment on. */
-static inline double now(void)
+/* What a clock shows, in nanoseconds. */
+static inline double nanoseconds(clockid_t clock)
 {
     struct timespec t;
-    clock_gettime(CLOCK_MONOTONIC, &t);
+    clock_gettime(clock, &t);
     return 1e9 * (double)t.tv_sec + (double)t.tv_nsec;
 }
 
