@@ -1,5 +1,5 @@
 # What there is to do here. README.md says what each is for.
-.PHONY: help demo test desk install bench fuzz clean
+.PHONY: help demo test desk install bench plot fuzz clean
 
 help:
 	@echo 'make demo    build everything for the desk and show a short day of it'
@@ -8,6 +8,7 @@ help:
 	@echo 'make install puts library, header, journal and man pages under PREFIX (and DESTDIR)'
 	@echo 'make fuzz    hostile input for long, against the model and coverage-guided (SEED=, SECONDS=600)'
 	@echo 'make bench   race the hash, the calls and the journal against plain C and libsodium alone'
+	@echo 'make plot    draw docs/speed.svg from what the last make bench found'
 	@echo 'make clean   remove build/ and target/'
 
 desk:
@@ -34,6 +35,8 @@ bench: desk
 SECONDS ?= 600
 fuzz: desk
 	@host/fuzz/run '$(SECONDS)' '$(SEED)'
+plot:
+	@python3 host/bench/plot.py build/bench.tsv docs/speed.svg
 
 clean:
 	rm -rf build target
