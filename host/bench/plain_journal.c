@@ -9,7 +9,7 @@
 #include "kes.h"
 #include "plain_kes.h"
 
-enum { LINE_MAX_SIZE = 2048, FIELDS = 5, CARD = 16, MESSAGE_MAX = CARD + 10 + 7 };
+enum { LINE_MAX_SIZE = 2048, FIELDS = 5, CARD = 16, MESSAGE_MAX = CARD + 10 + 7, SHORT_HEIGHT = 6, CENTS_MAX = 2000000 };
 
 struct field {
     const char *text;
@@ -93,7 +93,7 @@ static int read_header(const char *line, size_t len, struct header *head)
     size_t n = split(line, len, fields);
     if ((n != 2 && n != 4) || fields[0].len != 3 || memcmp(fields[0].text, "kes", 3) != 0)
         return 0;
-    head->h1 = head->h2 = 6;
+    head->h1 = head->h2 = SHORT_HEIGHT;
     if (n == 4 && !(number(fields[1], 0, KES_HEIGHT_MAX, &head->h1) && number(fields[2], 0, KES_HEIGHT_MAX, &head->h2)))
         return 0;
     return unhex(fields[n - 1], head->key, sizeof head->key);
@@ -110,7 +110,7 @@ static int read_entry(const struct header *head, const char *line, size_t len, s
     struct field f[FIELDS];
     uint64_t card;
     if (split(line, len, f) != FIELDS || !number(f[0], 0, kes_steps(head->h1, head->h2) - 1, &e->step) || f[1].len != CARD
-        || !digits(f[1], &card) || !number(f[2], 1, UINT32_MAX, &e->serial) || !number(f[3], 1, 2000000, &e->amount)
+        || !digits(f[1], &card) || !number(f[2], 1, UINT32_MAX, &e->serial) || !number(f[3], 1, CENTS_MAX, &e->amount)
         || !unhex(f[4], e->signature, kes_signature_size(head->h1, head->h2)))
         return 0;
     e->message_len = 0;

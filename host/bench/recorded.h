@@ -6,8 +6,10 @@
 #include <stddef.h>
 #include <stdint.h>
 
-/* The most calls of one work: two trees of height 12, and a signature, before which its key pair is made. */
-enum { RECORD_MAX = 2 * 4096 + 2, RECORD_MESSAGE_MAX = 64 };
+#include "kes.h"
+
+/* The most calls of one work: two trees of the greatest height, and a signature, before which its key pair is made. */
+enum { RECORD_MAX = (2 << KES_HEIGHT_MAX) + 2, RECORD_MESSAGE_MAX = 64 };
 enum record_kind { RECORD_PAIR, RECORD_SIGN, RECORD_VERIFY, RECORD_KINDS };
 
 struct record {
