@@ -12,7 +12,7 @@
 
 enum { LIBRARY, PLAIN, FLOOR, RACERS };
 enum { MAKE, STEP, LEAP, SIGN, VERIFY, WORKS };
-enum { ROUNDS = 400, TALL_EVERY = 16 };
+enum { ROUNDS = 400, TALL_EVERY = 8 };
 
 /* A key at step 0, with a signature of it. */
 struct key {
@@ -190,11 +190,22 @@ static void race(int round)
                 race_once(round, w, h);
 }
 
+/* The median of what each round found: when the machine slows down for a while, it slows both. */
+static double ratio(const struct heat *heat, int racer, int other)
+{
+    double each[ROUNDS];
+    size_t i;
+    for (i = 0; i < heat->rounds; i++)
+        each[i] = heat->times[racer][i] / heat->times[other][i];
+    return median(each, heat->rounds);
+}
+
 static void print_row(int w, int h)
 {
     struct heat *heat = &heats[w][h];
     int i;
-    printf("%s (%u,%u)", works[w].name, (unsigned)keys[h].h1, (unsigned)keys[h].h2);
+    printf("%s (%u,%u)\t%.4f\t%.4f\t%.4f", works[w].name, (unsigned)keys[h].h1, (unsigned)keys[h].h2, ratio(heat, LIBRARY, FLOOR),
+           ratio(heat, PLAIN, FLOOR), ratio(heat, LIBRARY, PLAIN));
     for (i = 0; i < RACERS; i++)
         printf("\t%.1f", median(heat->times[i], heat->rounds));
     for (i = 0; i < RECORD_KINDS; i++)

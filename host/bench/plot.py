@@ -40,18 +40,18 @@ def box(x, y, width, height, kind):
     return f'<rect x="{x:.1f}" y="{y:.1f}" width="{width:.1f}" height="{height:.1f}" class="{kind}"/>'
 
 
-def bar(y, time, floor, kind):
-    """A bar from the floor to the time, with the ratio at the right edge."""
-    start, end = sorted((across(0), across(100 * (time / floor - 1))))
-    return box(start, y, max(end - start, 1), BAR, kind) + text(WIDTH - 16, y + BAR - 1, f"{time / floor:.3f}", "small", "end")
+def bar(y, ratio, kind):
+    """A bar from the floor to a multiple of it, which stands at the right edge."""
+    start, end = sorted((across(0), across(100 * (ratio - 1))))
+    return box(start, y, max(end - start, 1), BAR, kind) + text(WIDTH - 16, y + BAR - 1, f"{ratio:.3f}", "small", "end")
 
 
 def row(work, y):
     """The two bars of a work, and its aim across them."""
     return "\n".join([
         text(LEFT - 4, y + 15, work.name, "", "end"),
-        bar(y, work.library, work.floor, "library"),
-        bar(y + BAR + 1, work.plain, work.floor, "plain"),
+        bar(y, work.of_floor, "library"),
+        bar(y + BAR + 1, work.plain_of_floor, "plain"),
         upright(across(100 * (work.aim - 1)), y - 4, ROW, "aim"),
     ])
 

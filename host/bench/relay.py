@@ -8,7 +8,7 @@ import statistics
 import subprocess
 import sys
 
-LINES, ROUNDS, AIM = 5_000, 21, "1.10"
+LINES, ROUNDS, AIM = 2_000, 51, "1.10"
 ROOT = pathlib.Path(__file__).resolve().parents[2]
 
 
@@ -36,6 +36,11 @@ def check(racers):
         sys.exit("bench: the two judges differ, or a line is not good")
 
 
+def ratio(times, others):
+    """The median of what each round found: when the machine slows down for a while, it slows both."""
+    return f"{statistics.median(a / b for a, b in zip(times, others)):.4f}"
+
+
 def main():
     folder = pathlib.Path(sys.argv[1])
     journal, calls = folder / "good.journal", folder / "good.calls"
@@ -48,7 +53,9 @@ def main():
         for racer in (turn, turn + 1, turn + 2):
             times[racer % 3].append(seconds(*racers[racer % 3]))
     print(f"# journal: {LINES} good lines at heights 6 and 6, whole processes; medians of {ROUNDS} rounds of processor time, interleaved; load {os.getloadavg()[0]:.1f}")
-    print("journal line (6,6)", *(f"{statistics.median(t) / LINES * 1e9:.1f}" for t in times), 0, 0, 2, AIM, sep="\t")
+    library, plain, floor = times
+    ratios = ratio(library, floor), ratio(plain, floor), ratio(library, plain)
+    print("journal line (6,6)", *ratios, *(f"{statistics.median(t) / LINES * 1e9:.1f}" for t in times), 0, 0, 2, AIM, sep="\t")
 
 
 main()

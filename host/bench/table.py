@@ -9,16 +9,15 @@ HEADING = "work                  pairs  signs  checks     library     plain C   
 
 
 def row(work):
-    of_floor, of_plain = work.library / work.floor, work.library / work.plain
-    met = "met" if of_floor <= work.aim and of_plain <= results.PEER_AIM else "missed"
+    met = "met" if work.of_floor <= work.aim and work.of_plain <= results.PEER_AIM else "missed"
     counts = f"{work.pairs:6.0f} {work.signatures:6.0f} {work.verifications:7.0f}"
     times = " ".join(f"{ns / 1000:11.1f}" for ns in (work.library, work.plain, work.floor))
-    return f"{work.name:20} {counts} {times} {of_floor:8.3f} {of_plain:10.3f}  {work.aim:.2f} {met}"
+    return f"{work.name:20} {counts} {times} {work.of_floor:8.3f} {work.of_plain:10.3f}  {work.aim:.2f} {met}"
 
 
 def main():
     remarks, works = results.read(sys.stdin)
-    print(*remarks, "", f"Ed25519 calls, microseconds, ratios; aim: / floor as told, / plain C at most {results.PEER_AIM}", HEADING, sep="\n")
+    print(*remarks, "", f"Ed25519 calls, microseconds, each round's ratios; aim: / floor as told, / plain C at most {results.PEER_AIM}", HEADING, sep="\n")
     print(*map(row, works), sep="\n")
     for work in works:
         if work.name.startswith("journal"):
