@@ -6,9 +6,9 @@ help:
 	@echo 'make test    every check there is: host tests, then the gate (rt ci)'
 	@echo 'make desk    build/: the library and programs with real Ed25519 (ED25519=sodium or openssl)'
 	@echo 'make install puts library, header, journal and man pages under PREFIX (and DESTDIR)'
-	@echo 'make fuzz    hostile input for long, against the model and coverage-guided (SEED=, SECONDS=600)'
 	@echo 'make bench   race the hash, the calls and the journal against plain C and libsodium alone'
 	@echo 'make plot    draw docs/speed.svg from what the last make bench found'
+	@echo 'make fuzz    hostile input for long, against the model and coverage-guided (SEED=, SECONDS=600)'
 	@echo 'make clean   remove build/ and target/'
 
 desk:
@@ -32,11 +32,12 @@ bench: desk
 	@rt staticlib blake2b_race >build/obj/race.log || { cat build/obj/race.log; exit 1; }
 	@host/bench/run
 
+plot:
+	@python3 host/bench/plot.py build/bench.tsv docs/speed.svg
+
 SECONDS ?= 600
 fuzz: desk
 	@host/fuzz/run '$(SECONDS)' '$(SEED)'
-plot:
-	@python3 host/bench/plot.py build/bench.tsv docs/speed.svg
 
 clean:
 	rm -rf build target
