@@ -109,7 +109,7 @@ static void sum_sign(const uint8_t *tree, size_t h, size_t t, const uint8_t *mes
     }
 }
 
-static int sum_verify(const uint8_t *root, size_t h, size_t t, const uint8_t *message, size_t len, const uint8_t *signature)
+static int path_fits(const uint8_t *root, size_t h, size_t t, const uint8_t *signature)
 {
     uint8_t x[NODE], joined[2 * NODE];
     size_t bit;
@@ -120,7 +120,12 @@ static int sum_verify(const uint8_t *root, size_t h, size_t t, const uint8_t *me
         memcpy(joined + (NODE - own), signature + SIGNED + NODE * bit, NODE);
         hash(joined, sizeof joined, x);
     }
-    return memcmp(x, root, NODE) == 0 && crypto_sign_verify_detached(signature + NODE, message, len, signature) == 0;
+    return memcmp(x, root, NODE) == 0;
+}
+
+static int leaf_accepts(const uint8_t *message, size_t len, const uint8_t *signature)
+{
+    return crypto_sign_verify_detached(signature + NODE, message, len, signature) == 0;
 }
 
 static int read_header(const uint8_t *table, size_t len, struct header *found)
@@ -249,6 +254,6 @@ uint32_t plain_verify(uint64_t h1, uint64_t h2, const uint8_t *key, size_t key_l
         return KES_PAST_END;
     childs = signature + sum_size(h1);
     root = childs + sum_size(h2);
-    return sum_verify(key, h1, step >> h2, root, NODE, signature)
-        && sum_verify(root, h2, step % ((size_t)1 << h2), message, message_len, childs) ? KES_DONE : KES_NOT_ACCEPTED;
+    return path_fits(key, h1, step >> h2, signature) && path_fits(root, h2, step % ((size_t)1 << h2), childs)
+        && leaf_accepts(root, NODE, signature) && leaf_accepts(message, message_len, childs) ? KES_DONE : KES_NOT_ACCEPTED;
 }
