@@ -1,11 +1,11 @@
 -- Hex digits and the bytes that pairs of them stand for.
 use mathlib.Core.Path.{_≡_, refl, sym, _∙_}
 use mathlib.Core.List.{List, [], _∷_, _++_}
-use mathlib.Core.Bool.{Bool, true, false}
+use mathlib.Core.Bool.{Bool, true, false, _&&_}
 use Prim.Native.Nat.{ℕ, suc, _+_, _*_, _-_, _≤_, _<_}
 use native.Mathlib.Numerals.{add-one}
 use native.Mathlib.Omega.{arith}
-use lib.Dec.{leb}
+use lib.Dec.{leb, ltb}
 use lib.ListN.{length, getD, take, drop, set, drop-of-length-le}
 use lib.Seq.{drop-cons, take-suc-set, append-snoc}
 use borrow.Author.Tests.{lt-ltb, ltb-true, le-leb, lt-leb, eq-eqb, ne-eqb}
@@ -14,7 +14,7 @@ use Rattle.text.specs.Numerals.{every, isDigit}
 use Rattle.text.specs.Hex.{nibble, isHexDigit, bytesOf, isHexOf, Unhexes}
 use Rattle.text.specs.declared.Decoded.{Decoded}
 use Rattle.text.specs.declared.Decoded.the-variants.{Full, Other}
-use Rattle.text.proofs.Reading.{digit-low, digit-high, digit-in}
+use Rattle.text.proofs.Reading.{digit-low, digit-high, digit-in, every-next, every-end}
 
 pub nibble-low : (x : ℕ) → x < 48 → nibble x ≡ 16
 unfolding nibble
@@ -39,17 +39,46 @@ nibble-high x h =
     let f : leb 97 x ≡ true = le-leb 97 x (omega arith) in
     simp (e, f, lt-leb x 102 h)
 
-pub hex-no : (x : ℕ) → nibble x ≡ 16 → isHexDigit x ≡ false
-unfolding isHexDigit
-hex-no x e = rw e
-
-pub hex-yes : (x : ℕ) → nibble x < 16 → isHexDigit x ≡ true
-unfolding isHexDigit
-hex-yes x h = lt-ltb (nibble x) 16 h
-
 pub hex-below : (x : ℕ) → isHexDigit x ≡ true → nibble x < 16
 unfolding isHexDigit
 hex-below x e = ltb-true (nibble x) 16 e
+
+-- the larger of two is below 16 where both are
+pub second-larger : (x y : ℕ) → x ≤ y → ltb y 16 ≡ (ltb x 16 && ltb y 16)
+second-larger x y h = go (ltb y 16) refl
+  where
+    neither : (b : Bool) → false ≡ (b && false)
+    neither true = refl
+    neither false = refl
+
+    go : (b : Bool) → ltb y 16 ≡ b → ltb y 16 ≡ (ltb x 16 && ltb y 16)
+    go true e = let k : y < 16 = ltb-true y 16 e in rw (e, lt-ltb x 16 (omega arith))
+    go false e = rw e (neither (ltb x 16))
+
+pub first-larger : (x y : ℕ) → y ≤ x → ltb x 16 ≡ (ltb x 16 && ltb y 16)
+first-larger x y h = go (ltb x 16) refl
+  where
+    go : (b : Bool) → ltb x 16 ≡ b → ltb x 16 ≡ (ltb x 16 && ltb y 16)
+    go true e = let k : x < 16 = ltb-true x 16 e in rw (e, lt-ltb y 16 (omega arith))
+    go false e = rw e
+
+-- one more digit looked at
+pub worse : (s : List ℕ) (i w w′ : ℕ) {x : ℕ} → i < length s → x ≡ nibble (getD s i 0) → ltb w′ 16 ≡ (ltb w 16 && ltb x 16)
+    → (ltb w 16 && every isHexDigit (drop i s)) ≡ (ltb w′ 16 && every isHexDigit (drop (i + 1) s))
+unfolding isHexDigit
+worse s i w w′ h ex e =
+    rw (e, ex, every-next isHexDigit s i h) (together (ltb w 16) (isHexDigit (getD s i 0)) (every isHexDigit (drop (i + 1) s)))
+  where
+    together : (a b c : Bool) → (a && (b && c)) ≡ ((a && b) && c)
+    together true b c = refl
+    together false b c = refl
+
+pub none-left : (s : List ℕ) (i w : ℕ) → length s ≤ i → (ltb w 16 && every isHexDigit (drop i s)) ≡ ltb w 16
+none-left s i w h = rw (every-end isHexDigit s i h) (only (ltb w 16))
+  where
+    only : (b : Bool) → (b && true) ≡ b
+    only true = refl
+    only false = refl
 
 -- one more pair
 pub bytes-step : (s : List ℕ) (j : ℕ) → j + 1 < length s

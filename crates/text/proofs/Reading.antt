@@ -36,6 +36,10 @@ module _ (p : ℕ → Bool) (s : List ℕ) (i : ℕ) where
   unfolding every
   every-stop h e = rw (drop-cons s i 0 h) (simp e)
 
+  pub every-next : i < length s → every p (drop i s) ≡ (p (getD s i 0) && every p (drop (i + 1) s))
+  unfolding every
+  every-next h = rw (add-one, drop-cons s i 0 h)
+
   pub every-end : length s ≤ i → every p (drop i s) ≡ true
   unfolding every
   every-end h = rw (drop-of-length-le s {i = i} h)

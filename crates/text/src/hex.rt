@@ -1,6 +1,7 @@
 // Bytes read from lower-case hex.
 ghost use mathlib.Core.Path.{_≡_};
-ghost use mathlib.Core.Bool.{true};
+ghost use mathlib.Core.Bool.{true, _&&_};
+ghost use lib.Dec.{ltb};
 ghost use Prim.Native.Nat.{_*_, _≤_};
 ghost use lib.ListN.{length};
 ghost use Rattle.text.specs.Hex.{nibble, isHexDigit, bytesOf, Unhexes};
@@ -26,18 +27,28 @@ fn nibble(x: u8) -> u8
     16
 }
 
+// The larger of two, which is below 16 where both are.
+fn larger(x: u8, y: u8) -> u8
+    ensures { λ r. ⌜ ltb r 16 ≡ (ltb x 16 && ltb y 16) ⌝ }
+{
+    if x < y {
+        return y;
+    }
+    x
+}
+
+// Looks at every byte, with no way out of the loop, so that the compiler can take many at once.
 fn all_hex(s: &[u8]) -> bool
     ensures { λ r. ⌜ r ≡ every isHexDigit (now (s .entry)) ⌝ }
 {
+    let mut worst: u8 = 0;
     let mut i: usize = 0;
     while i < s.len() {
         let x = nibble(s[i]);
-        if x == 16 {
-            return false;
-        }
+        worst = larger(worst, x);
         i += 1;
     }
-    true
+    worst < 16
 }
 
 fn decode(s: &[u8], out: &mut [u8])
