@@ -280,6 +280,8 @@ void desk_tick(uint64_t step)
         return;
     moved = kes_move(desk.table, desk.table_len, step);
     kes_wipe();
+    if (kes_number(moved) == KES_PAST_END)
+        refuse("the clock is past the key's last step; make a new key and have it registered");
     need(kes_number(moved), "kes_move");
     replace_key();
     show("step: %" PRIu64 "\n", step);
