@@ -1,6 +1,7 @@
-"""The key of the desk that crash.py crashes, by the independent model: its table at each step, and what signs the steps before."""
+"""The key of the desk that crash.py crashes, by the independent model: its table at each step, and what nobody may find by then."""
 import ed25519
 import kes
+from past import Past
 
 H1, H2 = 1, 2
 SEED = bytes(range(32))  # power.c hands it out
@@ -18,33 +19,13 @@ def tables():
     return found
 
 
-def path(seed, height, leaf):
-    """The seeds from a tree's to a leaf's, which is its secret."""
-    seeds = [seed]
-    for bit in reversed(range(height)):
-        seeds.append((kes.right if leaf >> bit & 1 else kes.left)(seeds[-1]))
-    return seeds
-
-
-def past(now):
-    """All seeds and secrets with which a step before this one can be signed; a parent's leaf is spent as soon as its step begins."""
-    t1, t2 = divmod(now, 2**H2)
-    found, stored = {SEED}, kes.right(SEED)
-    for parent in range(t1 + 1):
-        found.update([stored], path(kes.left(SEED), H1, parent))
-        child, stored = kes.left(stored), kes.right(stored)
-        for leaf in range(2**H2 if parent < t1 else t2):
-            found.update(path(child, H2, leaf))
-    return found
-
-
 TABLES = tables()
 SECRETS = [table[-64:-32] for table in TABLES]  # the present leaf's
-PAST = [past(step) for step in range(STEPS)]
+PAST = [Past(SEED, H1, H2, step).names for step in range(STEPS)]
 
 
 def signs_past(data, now):
-    """Whether bytes hold anything that signs a step before this one, plain or in hex."""
+    """Whether bytes hold anything that a table at this step may not know, plain or in hex."""
     return any(secret in data or secret.hex().encode() in data for secret in PAST[now])
 
 
