@@ -1,17 +1,23 @@
 -- Laws of fields: what a part that was lent leaves, fields written one after the other, and lists of bytes.
-use mathlib.Core.Path.{_≡_, refl, ap, _∙_}
+use mathlib.Core.Path.{_≡_, refl, sym, ap, _∙_}
 use mathlib.Core.List.{List, [], _∷_, _++_, append-assoc, append-nil, map}
 use mathlib.Core.Bool.{true, false, _&&_}
 use Prim.Native.Nat.{ℕ, zero, suc, _+_, _-_, _%_, _≤_, _<_}
-use native.Mathlib.Nat.{zero-add, mod-lt}
+use native.Mathlib.Nat.{zero-add, add-assoc, mod-lt}
+use native.Mathlib.Decide.{decLt}
 use native.Mathlib.Omega.{arith}
-use lib.ListN.{length, getD, replicate, take, drop, length-append, length-take, length-drop, drop-of-length-le}
-use lib.Seq.{paste, take-all, take-length, length-take-le, take-at, drop-at, drop-drop, drop-append-add, take-append-le, drop-append-le, drop-cons}
+use lib.ListN.{length, getD, replicate, take, drop, set, length-append, length-replicate, replicate-append-replicate, length-take, length-drop, take-append-drop, drop-of-length-le, List·getD-eq-default}
+use lib.Seq.{paste, set-at, take-all, take-length, length-take-le, take-at, drop-at, drop-drop, drop-append-add, take-append-le, drop-append-le, drop-cons, getD-take, getD-drop}
 use native.Mathlib.Numerals.{add-one}
 use lib.Dec.{eqb}
 use borrow.Author.Tests.{eq-eqb, ne-eqb}
 use Rattle.fields.specs.Fields.{part, put, Bytes}
 use Rattle.fields.specs.Tests.{same}
+
+-- a front of zeros, one longer
+pub zeros-next : (d : List ℕ) (i : ℕ) → i < length d → set (replicate i 0 ++ drop i d) i 0 ≡ replicate (i + 1) 0 ++ drop (i + 1) d
+zeros-next d i h =
+    rw (drop-cons d i 0 h, set-at (replicate i 0) (getD d i 0) (drop (suc i) d) 0 i (length-replicate i 0), ← replicate-append-replicate {A = ℕ} i 1 0, append-assoc, add-one)
 
 -- a copy of the whole of v is v put there
 pub paste-whole : (d : List ℕ) (at : ℕ) (v : List ℕ) → paste d at v (length v) ≡ put d at (length v) v
@@ -36,6 +42,12 @@ pub part-front : (x y : List ℕ) (at n : ℕ) → at + n ≤ length x → part 
 part-front x y at n h =
     rw (drop-append-le at x y (let z : at ≤ length x = omega arith in z)) (take-append-le n (drop at x) y (rw length-drop (omega arith)))
 
+-- a field of a field
+pub part-inside : (d : List ℕ) (at n b m : ℕ) → at + n ≤ length d → b + m ≤ n → part (part d at n) b m ≡ part d (at + b) m
+part-inside d at n b m h l =
+    let e = part-front (part d at n) (drop n (drop at d)) b m (rw (length-part d at n h) l) in
+    sym e ∙ rw (take-append-drop n (drop at d), drop-drop b at d)
+
 -- a field written right after a front p
 pub put-after : (p q v : List ℕ) (at n : ℕ) → length p ≡ at → put (p ++ q) at n v ≡ p ++ (v ++ drop n q)
 put-after p q v at n e = rw (take-at p q at e, ← e, drop-append-add p q n)
@@ -43,6 +55,13 @@ put-after p q v at n e = rw (take-at p q at e, ← e, drop-append-add p q n)
 -- a field written over another of its length
 pub put-over : (p q r v : List ℕ) (at n : ℕ) → length p ≡ at → length q ≡ n → put (p ++ (q ++ r)) at n v ≡ p ++ (v ++ r)
 put-over p q r v at n lp lq = put-after p (q ++ r) v at n lp ∙ rw (drop-at q r n lq)
+
+-- a field written right behind another is one field
+pub put-pair : (d a b : List ℕ) (at m n : ℕ) → at ≤ length d → length a ≡ m → put (put d at m a) (at + m) n b ≡ put d at (m + n) (a ++ b)
+put-pair d a b at m n h la =
+    let la′ : length (take at d ++ a) ≡ at + m = rw (length-append, length-take-le at d h, la) in
+    rw (← append-assoc (take at d) a (drop (at + m) d), put-after (take at d ++ a) (drop (at + m) d) b (at + m) n la′, drop-drop)
+    (rw (append-assoc, append-assoc, add-assoc))
 
 -- two and three fields written one after the other at the front
 pub put-two : (d a b : List ℕ) (m n : ℕ) {d₁ d₂ : List ℕ} → length a ≡ m → d₁ ≡ put d 0 m a → d₂ ≡ put d₁ m n b
@@ -75,6 +94,14 @@ pub bytes-append : (x y : List ℕ) → Bytes x → Bytes y → Bytes (x ++ y)
 bytes-append [] y bx by i = by i
 bytes-append (a ∷ x) y bx by zero = bx zero
 bytes-append (a ∷ x) y bx by (suc i) = bytes-append x y (λ j. bx (suc j)) by i
+
+pub bytes-part : (x : List ℕ) (at n : ℕ) → Bytes x → Bytes (part x at n)
+bytes-part x at n b i = elim (decLt i n) [
+  | yes l ↦ rw (getD-take n (drop at x) i 0 l, getD-drop) (b (at + i))
+  | no f ↦
+      let h : length (part x at n) ≤ i = rw length-take (omega arith) in
+      rw (List·getD-eq-default (part x at n) 0 h) (omega arith)
+]
 
 -- a remainder by 256 is a byte
 pub bytes-low : (x : List ℕ) → Bytes (map (λ (b : ℕ). b % 256) x)

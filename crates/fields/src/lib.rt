@@ -1,9 +1,17 @@
 // The fields that every layout of the library is made of, at an index of a lent slice.
 ghost use mathlib.Core.Path.{_≡_};
 ghost use Prim.Native.Nat.{_+_, _≤_};
-ghost use lib.ListN.{length};
+ghost use lib.ListN.{length, replicate};
 ghost use Rattle.fields.specs.Fields.{part, put};
 ghost use Rattle.fields.specs.Tests.{same};
+
+mod numbers;
+
+pub use numbers::four_bytes;
+pub use numbers::get_four;
+pub use numbers::get_two;
+pub use numbers::two_bytes;
+pub use numbers::wide;
 
 // Writes bytes into out from index at on.
 pub fn write(out: &mut [u8], at: usize, bytes: &[u8])
@@ -56,6 +64,17 @@ pub fn get64(s: &[u8], at: usize) -> [u8; 64]
     let end = at + 64;
     write(&mut field, 0, &s[at..end]);
     field
+}
+
+// Makes every byte of out zero.
+pub fn zero(out: &mut [u8])
+    ensures { λ _. ⌜ now (out .exit) ≡ replicate (length (now (out .entry))) 0 ⌝ }
+{
+    let mut i: usize = 0;
+    while i < out.len() {
+        out[i] = 0;
+        i += 1;
+    }
 }
 
 // Whether two slices of one length hold the same bytes.

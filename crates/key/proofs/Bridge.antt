@@ -3,17 +3,18 @@
 use mathlib.Core.Path.{_≡_, refl, ap, _∙_}
 use mathlib.Core.List.{List, [], _∷_, _++_}
 use mathlib.Core.Bool.{true}
-use Prim.Native.Nat.{ℕ, _+_, _*_, _/_, _%_, _^_, _≤_, _<_}
-use native.Mathlib.Nat.{div-add-mod', mod-eq-of-lt}
+use Prim.Native.Nat.{ℕ, _+_, _^_, _≤_, _<_}
 use native.Mathlib.Omega.{arith}
 use lib.ListN.{length}
-use lib.Pow.{pow-mono, shr-shr}
+use lib.Pow.{pow-mono}
 use borrow.Author.Tests.{eq-eqb, le-ltb, le-leb, lt-leb}
+use Rattle.fields.specs.Numbers.{fourIn}
+use Rattle.fields.proofs.Digits.{four-back}
 use Rattle.refusal.specs.declared.Refusal.the-variants.{NotLater, PastEnd}
 use Rattle.blake2b.specs.Calls.{limit}
 use Rattle.tree.specs.Tree.{zeros}
 use Rattle.key.specs.Part.{partSize, partRoot, partAt, countNewPart, countPart, partSignature, partVerdict}
-use Rattle.key.specs.Table.{maxHeight, steps, tableSize, signatureSize, header, fourIn, headerBytes, headerIn, bodyIn, headerOf, tableAt}
+use Rattle.key.specs.Table.{maxHeight, steps, tableSize, signatureSize, header, headerBytes, headerIn, bodyIn, headerOf, tableAt}
 use Rattle.key.specs.declared.header.Found.the-variants.{Good}
 use Rattle.key.specs.declared.Grown.the-variants as grown
 use Rattle.key.specs.declared.Answer.the-variants as answer
@@ -23,20 +24,9 @@ use Rattle.key.specs.Calls.{notMoved, moveUnder, moveOutcome, SignOutcom
 use Rattle.key.proofs.Headers.{Formed, good}
 use Rattle.key.proofs.Parts.{part-moves, part-size, part-root}
 
--- a step below 2^32 in four bytes, read back
-digits-sum : (s r0 q1 r1 q2 p2 r2 q3 p3 r3 : ℕ) → q1 * 256 + r0 ≡ s → q2 * 256 + r1 ≡ q1 → q2 ≡ p2 → q3 * 256 + r2 ≡ p2 → q3 ≡ p3 → r3 ≡ p3
-    → r0 + r1 * 256 + r2 * 65536 + r3 * 16777216 ≡ s
-digits-sum s r0 q1 r1 q2 p2 r2 q3 p3 r3 a b c d e f = omega arith
-
-digits : (s : ℕ) → s < 2 ^ 32 → s % 256 + s / 256 % 256 * 256 + s / 65536 % 256 * 65536 + s / 16777216 % 256 * 16777216 ≡ s
-digits s p =
-    let m : s / 16777216 % 256 ≡ s / 16777216 = mod-eq-of-lt (omega arith) in
-    digits-sum s (s % 256) (s / 256) (s / 256 % 256) (s / 256 / 256) (s / 65536) (s / 65536 % 256) (s / 65536 / 256) (s / 16777216) (s / 16777216 % 256)
-    (div-add-mod' s 256) (div-add-mod' (s / 256) 256) (shr-shr s 8 8) (div-add-mod' (s / 65536) 256) (shr-shr s 16 8) m
-
 header-back : (h1 h2 t : ℕ) (x : List ℕ) → t < 2 ^ 32 → headerIn (headerBytes (header h1 h2 t) ++ x) ≡ header h1 h2 t
 unfolding headerIn headerBytes fourIn
-header-back h1 h2 t x l = rw (digits t l)
+header-back h1 h2 t x l = rw (four-back t l)
 
 -- a header with as many bytes behind it as it says
 module _ (h1 h2 t : ℕ) (x : List ℕ) (lx : length x ≡ partSize h1 (h2 ∷ [])) (l1 : h1 ≤ maxHeight) (l2 : h2 ≤ maxHeight) (u : t < steps h1 h2) where
@@ -45,7 +35,7 @@ module _ (h1 h2 t : ℕ) (x : List ℕ) (lx : length x ≡ partSize h1 (h2 ∷ [
 
   formed : Formed (headerBytes (header h1 h2 t) ++ x)
   unfolding headerBytes fourIn
-  formed = record { long = omega arith; low1 = l1; low2 = l2; two = refl; three = refl; exact = omega arith; soon = rw (digits t small) u }
+  formed = record { long = omega arith; low1 = l1; low2 = l2; two = refl; three = refl; exact = omega arith; soon = rw (four-back t small) u }
 
   header-found : headerOf (headerBytes (header h1 h2 t) ++ x) ≡ Good (header h1 h2 t)
   header-found = good (headerBytes (header h1 h2 t) ++ x) formed ∙ ap Good (header-back h1 h2 t x small)

@@ -4,11 +4,12 @@ use mathlib.Core.List.{List, [], _++_}
 use Prim.Native.Nat.{ℕ}
 use native.Mathlib.Omega.{arith}
 use lib.ListN.{getD, replicate}
+use Rattle.fields.specs.Numbers.{fourIn}
 use Rattle.refusal.specs.declared.Refusal.the-variants.{Height, SeedOrKey, Table, Length, PastEnd, TooLong}
 use Rattle.tree.specs.Tree.{zeros}
 use Rattle.tree.specs.Move.{entered, movedTree, countMove, countNewAt}
 use Rattle.key.specs.Part.{seam, movedPart, countNewPart, countPart, sumsIn, partSignature}
-use Rattle.key.specs.Table.{header, fourIn, headerBytes, headerIn, wellFormed, headerOf}
+use Rattle.key.specs.Table.{header, headerBytes, headerIn, wellFormed, headerOf}
 use Rattle.key.specs.Calls.{
   moveWork,
   Makes,

@@ -1,0 +1,46 @@
+// Numbers in two and four bytes, lowest byte first.
+ghost use mathlib.Core.Path.{_≡_};
+ghost use Prim.Native.Nat.{_+_, _<_, _≤_};
+ghost use lib.ListN.{length};
+ghost use Rattle.fields.specs.Numbers.{twoBytes, fourBytes, twoIn, fourIn};
+
+pub fn wide(b: u8) -> usize
+    ensures { λ r. ⌜ (r ≡ b) × (r < 256) ⌝ }
+{
+    b as usize
+}
+
+pub fn two_bytes(n: usize) -> [u8; 2]
+    ensures { λ r. ⌜ r ≡ twoBytes n ⌝ }
+{
+    [(n % 256) as u8, (n / 256 % 256) as u8]
+}
+
+pub fn four_bytes(n: usize) -> [u8; 4]
+    ensures { λ r. ⌜ r ≡ fourBytes n ⌝ }
+{
+    [
+        (n % 256) as u8,
+        (n / 256 % 256) as u8,
+        (n / 65536 % 256) as u8,
+        (n / 16777216 % 256) as u8,
+    ]
+}
+
+// The number in the two bytes of s from index at on.
+pub fn get_two(s: &[u8], at: usize) -> usize
+    requires { ⌜ at + 2 ≤ length (now s) ⌝ }
+    ensures { λ r. ⌜ r ≡ twoIn (now (s .entry)) at ⌝ }
+    ensures { λ _. ⌜ now (s .exit) ≡ now (s .entry) ⌝ }
+{
+    wide(s[at]) + wide(s[at + 1]) * 256
+}
+
+// The number in the four bytes of s from index at on.
+pub fn get_four(s: &[u8], at: usize) -> usize
+    requires { ⌜ at + 4 ≤ length (now s) ⌝ }
+    ensures { λ r. ⌜ r ≡ fourIn (now (s .entry)) at ⌝ }
+    ensures { λ _. ⌜ now (s .exit) ≡ now (s .entry) ⌝ }
+{
+    wide(s[at]) + wide(s[at + 1]) * 256 + wide(s[at + 2]) * 65536 + wide(s[at + 3]) * 16777216
+}
