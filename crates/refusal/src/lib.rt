@@ -10,6 +10,7 @@ pub enum Refusal {
     NotLater,
     PastEnd,
     TooLong,
+    Entries,
 }
 
 // The number that a caller in C gets.
@@ -24,5 +25,6 @@ pub fn number(why: Refusal) -> u32
         Refusal::NotLater => 5,
         Refusal::PastEnd => 6,
         Refusal::TooLong => 7,
+        Refusal::Entries => 8,
     }
 }

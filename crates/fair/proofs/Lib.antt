@@ -1,0 +1,4 @@
+pub mod Headers
+pub mod Filling
+pub mod Signatures
+pub mod Outcomes

@@ -1,0 +1,5 @@
+pub mod Entries
+pub mod Cache
+pub mod Calls
+pub mod Listed
+pub mod Inside

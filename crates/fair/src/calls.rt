@@ -1,0 +1,130 @@
+// The four calls. Each checks in request 3's order, and writes nothing before all its checks have passed and Ed25519 has given all that is needed.
+ghost use Rattle.fair.specs.Calls.{Makes, Moves, Signs, Verifies};
+use crate::entries::accepted;
+use crate::entries::ask_all;
+use crate::entries::put_all;
+use crate::entries::room;
+use crate::entries::sign_entry;
+use crate::header::Found;
+use crate::header::Header;
+use crate::header::put_header;
+use crate::header::read_header;
+use crate::layout::ENTRY_SIZE;
+use crate::layout::HEADER_SIZE;
+use crate::layout::PUBLIC_SIZE;
+use crate::layout::SIGNATURE_SIZE;
+use crate::layout::cache_size;
+use crate::layout::outside;
+use blake2b::LIMIT;
+use key::Answer;
+use key::Verdict;
+use refusal::Refusal;
+
+// Makes a cache of n entries at step 0 from a master seed and n lent seeds, and writes out the master's public key. All seeds become zeros.
+pub fn make(n: u64, master: &mut [u8], seeds: &mut [u8], cache: &mut [u8], key: &mut [u8]) -> Answer
+    ensures { λ r. ⌜ Makes n (now (master .entry)) (now (seeds .entry)) (now (cache .entry)) (now (key .entry)) r
+        (now (master .exit)) (now (seeds .exit)) (now (cache .exit)) (now (key .exit)) ⌝ }
+{
+    let n = n as usize;
+    if outside(n) {
+        return Answer::Refused(Refusal::Entries);
+    }
+    if master.len() != 32 {
+        return Answer::Refused(Refusal::SeedOrKey);
+    }
+    if seeds.len() != 32 * n {
+        return Answer::Refused(Refusal::SeedOrKey);
+    }
+    if cache.len() != cache_size(n) {
+        return Answer::Refused(Refusal::Length);
+    }
+    if key.len() != 32 {
+        return Answer::Refused(Refusal::Length);
+    }
+    let from = fields::get32(master, 0);
+    let known = ed25519::public_key(from);
+    let mut public = room();
+    let end = PUBLIC_SIZE * n;
+    ask_all(from, seeds, n, &mut public[..end]);
+    put_all(&public[..end], seeds, n, &mut cache[HEADER_SIZE..]);
+    let step = 0;
+    put_header(cache, Header { entries: n, step });
+    fields::put32(key, 0, known);
+    fields::zero(master);
+    fields::zero(seeds);
+    Answer::Done
+}
+
+// Moves the cache to a later step: every entry below it becomes zeros.
+pub fn move_to(cache: &mut [u8], step: u64) -> Answer
+    ensures { λ r. ⌜ Moves (now (cache .entry)) step r (now (cache .exit)) ⌝ }
+{
+    let found = read_header(cache);
+    let Found::Good(header) = found else {
+        return found.answer();
+    };
+    let step = step as usize;
+    let entries = header.entries;
+    if entries <= step {
+        return Answer::Refused(Refusal::PastEnd);
+    }
+    let old = header.step;
+    if step <= old {
+        return Answer::Refused(Refusal::NotLater);
+    }
+    let end = HEADER_SIZE + ENTRY_SIZE * step;
+    fields::zero(&mut cache[HEADER_SIZE..end]);
+    put_header(cache, Header { entries, step });
+    Answer::Done
+}
+
+// Writes the signature over message by the cache, at its step.
+pub fn sign(cache: &[u8], message: &[u8], out: &mut [u8]) -> Answer
+    ensures { λ r. ⌜ Signs (now (cache .entry)) (now (message .entry)) (now (out .entry)) r
+        (now (cache .exit)) (now (message .exit)) (now (out .exit)) ⌝ }
+{
+    let found = read_header(cache);
+    let Found::Good(header) = found else {
+        return found.answer();
+    };
+    if LIMIT < message.len() {
+        return Answer::Refused(Refusal::TooLong);
+    }
+    if out.len() != SIGNATURE_SIZE {
+        return Answer::Refused(Refusal::Length);
+    }
+    let step = header.step;
+    let at = HEADER_SIZE + ENTRY_SIZE * step;
+    let end = at + ENTRY_SIZE;
+    sign_entry(&cache[at..end], message, out);
+    Answer::Done
+}
+
+// Judges the signature over message at this step of a day of n steps, under the master's public key.
+pub fn verify(n: u64, key: &[u8], step: u64, message: &[u8], signature: &[u8]) -> Verdict
+    ensures { λ r. ⌜ Verifies n (now (key .entry)) step (now (message .entry)) (now (signature .entry)) r
+        (now (key .exit)) (now (message .exit)) (now (signature .exit)) ⌝ }
+{
+    let n = n as usize;
+    let step = step as usize;
+    if outside(n) {
+        return Verdict::Refused(Refusal::Entries);
+    }
+    if key.len() != 32 {
+        return Verdict::Refused(Refusal::SeedOrKey);
+    }
+    if signature.len() != SIGNATURE_SIZE {
+        return Verdict::Refused(Refusal::Length);
+    }
+    if LIMIT < message.len() {
+        return Verdict::Refused(Refusal::TooLong);
+    }
+    if n <= step {
+        return Verdict::Refused(Refusal::PastEnd);
+    }
+    let master = fields::get32(key, 0);
+    if accepted(master, step, message, signature) {
+        return Verdict::Accepted;
+    }
+    Verdict::Rejected
+}
