@@ -1,8 +1,12 @@
 // The C edge: each answer as its number, on plain numbers and byte slices. include/kes.h declares these functions.
 ghost use Rattle.edge.specs.Edge.{EdgeHashes, EdgeMakes, EdgeMoves, EdgeReads, EdgeSigns, EdgeVerifies};
-use key::Answer;
+
+mod fair_day;
+mod numbers;
+
+use crate::numbers::answered;
+use crate::numbers::judged;
 use key::Grown;
-use key::Verdict;
 
 #[no_mangle]
 pub extern "C" fn kes_make(h1: u64, h2: u64, seed: &mut [u8], table: &mut [u8]) -> u64
@@ -18,10 +22,7 @@ pub extern "C" fn kes_make(h1: u64, h2: u64, seed: &mut [u8], table: &mut [u8]) 
 pub extern "C" fn kes_read_key(table: &[u8], key: &mut [u8]) -> u32
     ensures { λ r. ⌜ EdgeReads (now (table .entry)) (now (key .entry)) r (now (table .exit)) (now (key .exit)) ⌝ }
 {
-    match key::read_key(table, key) {
-        Answer::Done => 0,
-        Answer::Refused(why) => refusal::number(why),
-    }
+    answered(key::read_key(table, key))
 }
 
 #[no_mangle]
@@ -38,10 +39,7 @@ pub extern "C" fn kes_move(table: &mut [u8], step: u64) -> u64
 pub extern "C" fn kes_sign(table: &[u8], message: &[u8], signature: &mut [u8]) -> u32
     ensures { λ r. ⌜ EdgeSigns (now (table .entry)) (now (message .entry)) (now (signature .entry)) r (now (table .exit)) (now (message .exit)) (now (signature .exit)) ⌝ }
 {
-    match key::sign(table, message, signature) {
-        Answer::Done => 0,
-        Answer::Refused(why) => refusal::number(why),
-    }
+    answered(key::sign(table, message, signature))
 }
 
 #[no_mangle]
@@ -55,11 +53,7 @@ pub extern "C" fn kes_verify(
 ) -> u32
     ensures { λ r. ⌜ EdgeVerifies h1 h2 (now (key .entry)) step (now (message .entry)) (now (signature .entry)) r (now (key .exit)) (now (message .exit)) (now (signature .exit)) ⌝ }
 {
-    match key::verify(h1, h2, key, step, message, signature) {
-        Verdict::Accepted => 0,
-        Verdict::Rejected => 100,
-        Verdict::Refused(why) => refusal::number(why),
-    }
+    judged(key::verify(h1, h2, key, step, message, signature))
 }
 
 #[no_mangle]
