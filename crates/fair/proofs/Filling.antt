@@ -4,11 +4,11 @@ use mathlib.Core.List.{List, _++_, append-assoc}
 use Prim.Native.Nat.{ℕ, _+_, _*_, _≤_, _<_}
 use native.Mathlib.Nat.{add-zero}
 use native.Mathlib.Omega.{arith}
-use lib.ListN.{length, drop, length-append}
+use lib.ListN.{length, take, drop, length-append}
 use lib.Seq.{take-at, drop-at, take-all}
 use Rattle.fields.specs.Fields.{part, put}
 use Rattle.fields.specs.Rows.{rows}
-use Rattle.fields.proofs.Laws.{length-part, part-inside, put-pair}
+use Rattle.fields.proofs.Laws.{length-part, part-inside, put-pair, front-back}
 use Rattle.fields.proofs.Rows.{rows-same, rows-length, rows-part, rows-next, rows-all}
 use Rattle.ed25519.specs.Ed25519.{publicKey, signature, publicKey-length, signature-length}
 use Rattle.fair.specs.Entries.{vouched, entrySize, entry, seedIn, entries}
@@ -109,3 +109,8 @@ joined-is a ss n i l =
 pub joined-are : (a ss : List ℕ) (n : ℕ) → joinedEntries (publicParts a ss n) ss n ≡ entries a ss n
 unfolding joinedEntries entries
 joined-are a ss n = rows-same n (joinedEntry (publicParts a ss n) ss) (λ i. entry a i (seedIn ss i)) (joined-is a ss n)
+
+-- all public parts kept at the front of a room r, which comes back as x, then all entries written of them
+pub filled : (a ss r x : List ℕ) (n : ℕ) {ys : List ℕ} → publicSize * n ≤ length r → length x ≡ length (take (publicSize * n) r) → x ≡ publicParts a ss n
+    → ys ≡ joinedEntries (take (publicSize * n) (x ++ drop (publicSize * n) r)) ss n → ys ≡ entries a ss n
+filled a ss r x n h k ex ey = ey ∙ rw (front-back r x (publicSize * n) h k, ex) (joined-are a ss n)

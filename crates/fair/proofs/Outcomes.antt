@@ -18,9 +18,9 @@ use Rattle.key.specs.declared.Answer.{Answer}
 use Rattle.key.specs.declared.Answer.the-variants as answer
 use Rattle.key.specs.declared.Verdict.{Verdict}
 use Rattle.key.specs.declared.Verdict.the-variants as verdict
-use Rattle.fair.specs.Entries.{entrySize, signatureSize, entrySignature, fairVerdict}
-use Rattle.fair.specs.Cache.{outside, headerSize, cacheSize, cleared, header, headerBytes, bodyIn, entryIn, headerOf, movedBody}
-use Rattle.fair.specs.Inside.{publicParts, joinedEntries, answerOf}
+use Rattle.fair.specs.Entries.{entrySize, entries, signatureSize, entrySignature, fairVerdict}
+use Rattle.fair.specs.Cache.{outside, headerSize, cacheSize, cleared, header, headerBytes, bodyIn, headerOf, movedBody}
+use Rattle.fair.specs.Inside.{answerOf}
 use Rattle.fair.specs.Calls.{Makes, MakeOutcome, notMade, made, makeOutcome}
 use Rattle.fair.specs.Calls.{Moves, MoveOutcome, notMoved, moved, moveUnder, moveOutcome}
 use Rattle.fair.specs.Calls.{Signs, SignOutcome, notSigned, signed, signUnder, signOutcome}
@@ -28,7 +28,6 @@ use Rattle.fair.specs.Calls.{Verifies, verdictOf, verifyOutcome}
 use Rattle.fair.specs.declared.header.Header.{Header}
 use Rattle.fair.specs.declared.header.Found.{Found}
 use Rattle.fair.specs.declared.header.Found.the-variants as found
-use Rattle.fair.proofs.Filling.{joined-are}
 
 -- move
 module _ (d : List ℕ) (t : ℕ) where
@@ -181,16 +180,15 @@ module _ (n : ℕ) (a ss d k : List ℕ) where
               (rw (w, eq-eqb (length a) 32 la, eq-eqb (length ss) (32 * n) ls, eq-eqb (length d) (cacheSize n) (ld ∙ en), ne-eqb (length k) 32 f))
 
           -- the entries' part of the cache was lent, and came back as ys
-          pub make-done : {from known p ys a′ ss′ d′ k′ : List ℕ} → length k ≡ 32 → from ≡ part a 0 32 → known ≡ publicKey from → p ≡ publicParts from ss n
-              → ys ≡ joinedEntries p ss n
+          pub make-done : {from known ys a′ ss′ d′ k′ : List ℕ} → length k ≡ 32 → from ≡ part a 0 32 → known ≡ publicKey from → ys ≡ entries from ss n
               → d′ ≡ headerBytes (header n 0) ++ bodyIn (take headerSize d ++ (ys ++ drop (length d - headerSize) (drop headerSize d)))
               → k′ ≡ put k 0 32 known → a′ ≡ replicate (length a) 0 → ss′ ≡ replicate (length ss) 0 → Makes n a ss d k answer.Done a′ ss′ d′ k′
           unfolding makeOutcome cleared
-          make-done {known = known} {ys = ys} lk ef eo ep ey ed ek ea es =
+          make-done {known = known} {ys = ys} lk ef eo ey ed ek ea es =
               let whole = ef ∙ take-all 32 a (omega arith) in
               makes (made n a ss)
               (rw (w, eq-eqb (length a) 32 la, eq-eqb (length ss) (32 * n) ls, eq-eqb (length d) (cacheSize n) (ld ∙ en), eq-eqb (length k) 32 lk)) refl
               (ea ∙ rw la)
               (es ∙ rw ls)
-              (ed ∙ rw (drop-back d ys headerSize (omega arith), ey, ep, whole, joined-are a ss n))
+              (ed ∙ rw (drop-back d ys headerSize (omega arith), ey, whole))
               (ek ∙ put-whole k known 32 lk ∙ eo ∙ rw whole)

@@ -1,9 +1,7 @@
 // The four calls. Each checks in request 3's order, and writes nothing before all its checks have passed and Ed25519 has given all that is needed.
 ghost use Rattle.fair.specs.Calls.{Makes, Moves, Signs, Verifies};
 use crate::entries::accepted;
-use crate::entries::ask_all;
-use crate::entries::put_all;
-use crate::entries::room;
+use crate::entries::fill;
 use crate::entries::sign_entry;
 use crate::header::Found;
 use crate::header::Header;
@@ -11,7 +9,6 @@ use crate::header::put_header;
 use crate::header::read_header;
 use crate::layout::ENTRY_SIZE;
 use crate::layout::HEADER_SIZE;
-use crate::layout::PUBLIC_SIZE;
 use crate::layout::SIGNATURE_SIZE;
 use crate::layout::cache_size;
 use crate::layout::outside;
@@ -43,10 +40,7 @@ pub fn make(n: u64, master: &mut [u8], seeds: &mut [u8], cache: &mut [u8], key: 
     }
     let from = fields::get32(master, 0);
     let known = ed25519::public_key(from);
-    let mut public = room();
-    let end = PUBLIC_SIZE * n;
-    ask_all(from, seeds, n, &mut public[..end]);
-    put_all(&public[..end], seeds, n, &mut cache[HEADER_SIZE..]);
+    fill(from, seeds, n, &mut cache[HEADER_SIZE..]);
     let step = 0;
     put_header(cache, Header { entries: n, step });
     fields::put32(key, 0, known);

@@ -3,7 +3,7 @@ ghost use mathlib.Core.Path.{_≡_};
 ghost use Prim.Native.Nat.{_+_, _*_, _<_, _≤_};
 ghost use lib.ListN.{length};
 ghost use Rattle.fields.specs.Fields.{put};
-ghost use Rattle.fair.specs.Entries.{vouched, entrySize, signatureSize, entrySignature, fairVerdict};
+ghost use Rattle.fair.specs.Entries.{vouched, entrySize, entries, signatureSize, entrySignature, fairVerdict};
 ghost use Rattle.fair.specs.Cache.{most};
 ghost use Rattle.fair.specs.Inside.{publicSize, publicPart, publicParts, joinedEntry, joinedEntries};
 use crate::layout::ENTRY_SIZE;
@@ -21,7 +21,7 @@ fn vouch(i: usize, vk: [u8; 32]) -> [u8; 36]
 }
 
 // Room for the public parts of the largest cache.
-pub(crate) fn room() -> [u8; 24576]
+fn room() -> [u8; 24576]
     ensures { λ r. ⌜ length r ≡ 24576 ⌝ }
 {
     [0u8; 24576]
@@ -41,7 +41,7 @@ fn ask_one(master: [u8; 32], i: usize, seed: [u8; 32], public: &mut [u8])
 }
 
 // Asks Ed25519 for all n entries.
-pub(crate) fn ask_all(master: [u8; 32], seeds: &[u8], n: usize, public: &mut [u8])
+fn ask_all(master: [u8; 32], seeds: &[u8], n: usize, public: &mut [u8])
     requires { ⌜ (n ≤ most) × (length (now seeds) ≡ 32 * n) × (length (now public) ≡ publicSize * n) ⌝ }
     ensures { λ _. ⌜ now (public .exit) ≡ publicParts master (now (seeds .entry)) n ⌝ }
     ensures { λ _. ⌜ now (seeds .exit) ≡ now (seeds .entry) ⌝ }
@@ -72,7 +72,7 @@ fn put_entry(public: &[u8], seeds: &[u8], i: usize, body: &mut [u8])
 }
 
 // Writes all n entries.
-pub(crate) fn put_all(public: &[u8], seeds: &[u8], n: usize, body: &mut [u8])
+fn put_all(public: &[u8], seeds: &[u8], n: usize, body: &mut [u8])
     requires { ⌜ (n ≤ most) × (length (now public) ≡ publicSize * n) × (length (now seeds) ≡ 32 * n) × (length (now body) ≡ entrySize * n) ⌝ }
     ensures { λ _. ⌜ now (body .exit) ≡ joinedEntries (now (public .entry)) (now (seeds .entry)) n ⌝ }
     ensures { λ _. ⌜ (now (public .exit) ≡ now (public .entry)) × (now (seeds .exit) ≡ now (seeds .entry)) ⌝ }
@@ -82,6 +82,18 @@ pub(crate) fn put_all(public: &[u8], seeds: &[u8], n: usize, body: &mut [u8])
         put_entry(public, seeds, i, body);
         i += 1;
     }
+}
+
+// Writes the entries of n seeds into body. Ed25519 is asked for all of them before the first is written.
+pub(crate) fn fill(master: [u8; 32], seeds: &[u8], n: usize, body: &mut [u8])
+    requires { ⌜ (n ≤ most) × (length (now seeds) ≡ 32 * n) × (length (now body) ≡ entrySize * n) ⌝ }
+    ensures { λ _. ⌜ now (body .exit) ≡ entries master (now (seeds .entry)) n ⌝ }
+    ensures { λ _. ⌜ now (seeds .exit) ≡ now (seeds .entry) ⌝ }
+{
+    let mut public = room();
+    let end = PUBLIC_SIZE * n;
+    ask_all(master, seeds, n, &mut public[..end]);
+    put_all(&public[..end], seeds, n, body);
 }
 
 // Writes the signature over message by this entry. Ed25519 is asked before anything is written.

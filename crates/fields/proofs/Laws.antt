@@ -89,6 +89,10 @@ tail-back xs ys a = rw (drop-of-length-le (drop a xs) {i = length xs - a} (rw le
 pub drop-back : (xs ys : List ℕ) (a : ℕ) → a ≤ length xs → drop a (take a xs ++ (ys ++ drop (length xs - a) (drop a xs))) ≡ ys
 drop-back xs ys a h = rw (tail-back xs ys a) (drop-at (take a xs) ys a (length-take-le a xs h))
 
+-- The front of xs up to index n, lent as `&mut`, comes back as ys: read again, it is ys.
+pub front-back : (xs ys : List ℕ) (n : ℕ) → n ≤ length xs → length ys ≡ length (take n xs) → take n (ys ++ drop n xs) ≡ ys
+front-back xs ys n h e = take-at ys (drop n xs) n (e ∙ length-take-le n xs h)
+
 -- lists of bytes
 pub bytes-append : (x y : List ℕ) → Bytes x → Bytes y → Bytes (x ++ y)
 bytes-append [] y bx by i = by i

@@ -1,6 +1,6 @@
 // Numbers in two and four bytes, lowest byte first.
 ghost use mathlib.Core.Path.{_≡_};
-ghost use Prim.Native.Nat.{_+_, _<_, _≤_};
+ghost use Prim.Native.Nat.{_+_, _%_, _<_, _≤_};
 ghost use lib.ListN.{length};
 ghost use Rattle.fields.specs.Numbers.{twoBytes, fourBytes, twoIn, fourIn};
 
@@ -10,21 +10,23 @@ pub fn wide(b: u8) -> usize
     b as usize
 }
 
+// The lowest byte of n.
+fn low(n: usize) -> u8
+    ensures { λ r. ⌜ r ≡ n % 256 ⌝ }
+{
+    (n % 256) as u8
+}
+
 pub fn two_bytes(n: usize) -> [u8; 2]
     ensures { λ r. ⌜ r ≡ twoBytes n ⌝ }
 {
-    [(n % 256) as u8, (n / 256 % 256) as u8]
+    [low(n), low(n / 256)]
 }
 
 pub fn four_bytes(n: usize) -> [u8; 4]
     ensures { λ r. ⌜ r ≡ fourBytes n ⌝ }
 {
-    [
-        (n % 256) as u8,
-        (n / 256 % 256) as u8,
-        (n / 65536 % 256) as u8,
-        (n / 16777216 % 256) as u8,
-    ]
+    [low(n), low(n / 256), low(n / 65536), low(n / 16777216)]
 }
 
 // The number in the two bytes of s from index at on.

@@ -51,7 +51,7 @@ verify-once h1 h2 k t m x p q = (
 )
 
 -- one of the listed
-either : {A : Type 0} {x y : A} {xs : List A} (b : Bool) → Among x xs → Among y xs → Among (pick b x y) xs
+pub either : {A : Type 0} {x y : A} {xs : List A} (b : Bool) → Among x xs → Among y xs → Among (pick b x y) xs
 either true p q = p
 either false p q = q
 

@@ -1,7 +1,6 @@
 use mathlib.Core.Path.{_≡_, sym, _∙_}
 use mathlib.Core.Bool.{false}
 use borrow.Author.Needs.{needs}
-use native.Mathlib.Omega.{arith}
 use Rattle.fair.specs.Cache.{outside}
 use Rattle.fair.proofs.Outcomes.{verify-outside, verify-key, verify-length, verify-long, verify-late, verify-told}
 use Rattle.fair.proofs.calls.verify.Statement.{statement}

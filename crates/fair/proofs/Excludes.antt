@@ -1,0 +1,120 @@
+-- What the contracts rule out, at one input each: another order of a call's refusals, and stand-ins for a call. Whoever weakens a definition breaks one of
+-- these.
+use mathlib.Core.Path.{_≡_, sym, ap, _∙_}
+use mathlib.Core.List.{List, [], _++_}
+use Prim.Native.Nat.{ℕ}
+use native.Mathlib.Omega.{arith}
+use lib.ListN.{getD, replicate}
+use Rattle.fields.specs.Numbers.{twoIn}
+use Rattle.refusal.specs.declared.Refusal.the-variants.{SeedOrKey, Table, Length, PastEnd, TooLong, Entries}
+use Rattle.key.specs.declared.Answer.{Answer}
+use Rattle.key.specs.declared.Answer.the-variants as answer
+use Rattle.key.specs.declared.Verdict.{Verdict}
+use Rattle.key.specs.declared.Verdict.the-variants as verdict
+use Rattle.fair.specs.Entries.{entrySignature}
+use Rattle.fair.specs.Cache.{header, headerBytes, headerIn, wellFormed, headerOf, cleared, movedBody}
+use Rattle.fair.specs.Calls.{Makes, makeOutcome, Moves, moveUnder, moveOutcome, Signs, signUnder, signOutcome, Verifies, verdictOf, verifyOutcome}
+
+-- a cache of two entries at step t, every byte of them x
+unfoldable pub plain : ℕ → ℕ → List ℕ
+plain t x = headerBytes (header 2 t) ++ replicate 256 x
+
+-- A move of it from step 0 to step 1 is done;
+pub not-refusing : (r : Answer) (d : List ℕ) → Moves (plain 0 7) 1 r d → r ≡ answer.Done
+unfolding plain headerBytes moveOutcome moveUnder headerOf wellFormed headerIn twoIn
+not-refusing r d m = m .answers
+
+-- it writes the step, so the cache is not left;
+pub not-idle : (r : Answer) → Moves (plain 0 7) 1 r (plain 0 7) → ⊥
+unfolding plain headerBytes moveOutcome moveUnder headerOf wellFormed headerIn twoIn
+not-idle r m = let e : _≡_ {A = ℕ} 0 1 = ap (λ (d : List ℕ). getD d 2 0) (m .leaves) in omega arith
+
+-- and it zeroes the first entry to its last byte, so more than the step and the secret is written.
+pub not-only-step : (r : Answer) → Moves (plain 0 7) 1 r (plain 1 7) → ⊥
+unfolding plain headerBytes moveOutcome moveUnder headerOf wellFormed headerIn twoIn movedBody cleared
+not-only-step r m = let e : _≡_ {A = ℕ} 7 0 = ap (λ (d : List ℕ). getD d 131 0) (m .leaves) in omega arith
+
+-- A move from step 1 to step 2 zeroes the first entry too, wherever its bytes came from: it does not begin at the old step.
+pub not-from-the-old-step : (r : Answer) (d : List ℕ) → Moves (headerBytes (header 3 1) ++ replicate 384 7) 2 r d → getD d 4 0 ≡ 0
+unfolding headerBytes moveOutcome moveUnder headerOf wellFormed headerIn twoIn movedBody cleared
+not-from-the-old-step r d m = ap (λ (x : List ℕ). getD x 4 0) (m .leaves)
+
+-- Two caches with other entries sign one message otherwise: no signature is fixed.
+pub not-fixed : (y : List ℕ) {r₁ r₂ : Answer} {d₁ d₂ m₁ m₂ : List ℕ} → Signs (plain 0 7) [] (replicate 160 0) r₁ d₁ m₁ y
+    → Signs (plain 0 8) [] (replicate 160 0) r₂ d₂ m₂ y → ⊥
+unfolding plain headerBytes signOutcome signUnder headerOf wellFormed headerIn twoIn entrySignature
+not-fixed y p q =
+    let e : _≡_ {A = ℕ} 7 8 = ap (λ (d : List ℕ). getD d 0 0) (sym (p .leaves) ∙ q .leaves) in
+    omega arith
+
+-- make: 8 before 2, at both ends; 2 before 4, for the master and for the seeds
+module _ {r : Answer} {a ss d k : List ℕ} where
+  pub make-8-2 : Makes 257 [] [] [] [] r a ss d k → r ≡ answer.Refused Entries
+  unfolding makeOutcome
+  make-8-2 m = m .answers
+
+  pub make-8-none : Makes 0 (replicate 32 0) [] (replicate 4 0) (replicate 32 0) r a ss d k → r ≡ answer.Refused Entries
+  unfolding makeOutcome
+  make-8-none m = m .answers
+
+  pub make-2-4 : Makes 1 [] [] [] [] r a ss d k → r ≡ answer.Refused SeedOrKey
+  unfolding makeOutcome
+  make-2-4 m = m .answers
+
+  pub make-2-seeds : Makes 1 (replicate 32 0) (replicate 31 0) [] [] r a ss d k → r ≡ answer.Refused SeedOrKey
+  unfolding makeOutcome
+  make-2-seeds m = m .answers
+
+  pub make-4-key : Makes 1 (replicate 32 0) (replicate 32 0) (replicate 132 0) [] r a ss d k → r ≡ answer.Refused Length
+  unfolding makeOutcome
+  make-4-key m = m .answers
+
+-- move: 3 before 6 (6 and 5 never meet); a move to N is 6
+pub move-3-6 : {r : Answer} {d : List ℕ} → Moves [] 256 r d → r ≡ answer.Refused Table
+unfolding moveOutcome moveUnder headerOf wellFormed
+move-3-6 m = m .answers
+
+pub move-6 : {r : Answer} {d : List ℕ} → Moves (plain 1 7) 2 r d → r ≡ answer.Refused PastEnd
+unfolding plain headerBytes moveOutcome moveUnder headerOf wellFormed headerIn twoIn
+move-6 m = m .answers
+
+-- a cache at its N, or of no entries, is no cache
+pub move-3-end : {r : Answer} {d : List ℕ} → Moves (plain 2 7) 1 r d → r ≡ answer.Refused Table
+unfolding plain headerBytes moveOutcome moveUnder headerOf wellFormed headerIn twoIn
+move-3-end m = m .answers
+
+pub move-3-none : {r : Answer} {d : List ℕ} → Moves (headerBytes (header 0 0)) 1 r d → r ≡ answer.Refused Table
+unfolding headerBytes moveOutcome moveUnder headerOf wellFormed headerIn twoIn
+move-3-none m = m .answers
+
+-- sign: 3 before 7, 7 before 4
+module _ {r : Answer} {d m out : List ℕ} where
+  pub sign-3-7 : Signs [] (replicate 4097 0) [] r d m out → r ≡ answer.Refused Table
+  unfolding signOutcome signUnder headerOf wellFormed
+  sign-3-7 p = p .answers
+
+  pub sign-7-4 : Signs (plain 0 7) (replicate 4097 0) [] r d m out → r ≡ answer.Refused TooLong
+  unfolding plain headerBytes signOutcome signUnder headerOf wellFormed headerIn twoIn
+  sign-7-4 p = p .answers
+
+-- verify: 8 before 2, 2 before 4, 4 before 7, 7 before 6; and a step at N is refused
+module _ {r : Verdict} {k m x : List ℕ} where
+  pub verify-8-2 : Verifies 257 [] 0 [] [] r k m x → r ≡ verdict.Refused Entries
+  unfolding verifyOutcome verdictOf
+  verify-8-2 v = v .answers
+
+  pub verify-2-4 : Verifies 1 [] 0 [] [] r k m x → r ≡ verdict.Refused SeedOrKey
+  unfolding verifyOutcome verdictOf
+  verify-2-4 v = v .answers
+
+  pub verify-4-7 : Verifies 1 (replicate 32 0) 0 (replicate 4097 0) [] r k m x → r ≡ verdict.Refused Length
+  unfolding verifyOutcome verdictOf
+  verify-4-7 v = v .answers
+
+  pub verify-7-6 : Verifies 1 (replicate 32 0) 1 (replicate 4097 0) (replicate 160 0) r k m x → r ≡ verdict.Refused TooLong
+  unfolding verifyOutcome verdictOf
+  verify-7-6 v = v .answers
+
+  pub verify-6 : Verifies 256 (replicate 32 0) 256 [] (replicate 160 0) r k m x → r ≡ verdict.Refused PastEnd
+  unfolding verifyOutcome verdictOf
+  verify-6 v = v .answers
