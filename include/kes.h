@@ -1,4 +1,4 @@
-/* kes.h: an evolving signing key, for C99 and C++.
+/* kes.h: an evolving signing key, and a fair's cache of keys, for C99 and C++.
  *
  * THE ORDER OF WORK. A move destroys the key of the step it leaves, so a desk keeps this order and no other:
  *     sign, store the record, write the chip, show "done", and only then move.
@@ -7,12 +7,13 @@
  *   - A slice is a pointer and a length in bytes. A null pointer goes only with length 0.
  *   - No two slices lent to one call overlap: not seed and table, not table and signature, not any other two.
  *   - Every call answers on every input. A refusal changes nothing that was lent.
- *   - Sizes are exact: a table, key or signature one byte too long is refused as one that is too short.
- *   - Nothing is kept between calls. The caller owns all memory; a host stores a table with its length.
+ *   - Sizes are exact: a table, cache, key or signature one byte too long is refused as one that is too short.
+ *   - Nothing is kept between calls. The caller owns all memory; a host stores a table or a cache with its length.
  *   - What a call leaves in dead stack frames, secrets of the past among it, goes by kes_wipe alone.
- *   - One table, one thread at a time.
+ *   - One table or cache, one thread at a time.
  *   - kes_make and kes_move answer a number and a count in one word: take them apart with kes_number and kes_count.
  *     Such a word is never 0 when the call is done, so `if (kes_move(..) == 0)` is always wrong.
+ *     The other calls, those of the fair too, answer the number alone.
  */
 #ifndef KES_H
 #define KES_H
@@ -34,12 +35,13 @@ extern "C" {
 enum kes_numbers {
     KES_DONE = 0,         /* done, or accepted */
     KES_HEIGHT = 1,       /* a height above KES_HEIGHT_MAX */
-    KES_SEED_OR_KEY = 2,  /* seed or verification key not 32 bytes */
-    KES_TABLE = 3,        /* not a well-formed table */
+    KES_SEED_OR_KEY = 2,  /* seed or verification key not 32 bytes, a fair's seeds not 32 for each entry */
+    KES_TABLE = 3,        /* not a well-formed table or cache */
     KES_LENGTH = 4,       /* output or signature not its exact length */
-    KES_NOT_LATER = 5,    /* new step not later than the table's */
-    KES_PAST_END = 6,     /* step at or past kes_steps */
+    KES_NOT_LATER = 5,    /* new step not later than the table's or cache's */
+    KES_PAST_END = 6,     /* step at or past kes_steps, or a cache's entries */
     KES_TOO_LONG = 7,     /* message, or bytes fed to the hash, above KES_MESSAGE_MAX */
+    KES_ENTRIES = 8,      /* a fair's entries not 1 to KES_FAIR_MAX */
     KES_NOT_ACCEPTED = 100 /* verify: well formed, not accepted */
 };
 
@@ -52,9 +54,15 @@ enum kes_numbers {
 #define KES_TABLE_MAX 2952u
 #define KES_SIGNATURE_MAX 992u
 
+#define KES_FAIR_MAX 256u
+#define KES_FAIR_SIGNATURE_SIZE 160u
+/* The largest cache, of 256 entries. */
+#define KES_FAIR_CACHE_MAX 32772u
+
 /* Stack that a caller leaves free below it: what a call may use, with the Ed25519 library, and what kes_wipe clears.
- * Measured (host/test/stack): under 9,000 bytes with libsodium 1.0.18, under 11,000 with OpenSSL 3.0. The rest is margin. */
-#define KES_STACK 32768
+ * Measured (host/test/stack): under 32,000 bytes with libsodium 1.0.18, under 34,000 with OpenSSL 3.0, of which kes_fair_make keeps
+ * 24,576 for what it has asked and not yet written, all public; under 9,000 and 11,000 without the fair. The rest is margin. */
+#define KES_STACK 73728
 
 /* Sizes and steps of a key of these heights, 0 where a height is above 12. */
 #define KES_HEIGHTS_FIT(h1, h2) ((h1) <= KES_HEIGHT_MAX && (h2) <= KES_HEIGHT_MAX)
@@ -64,6 +72,14 @@ enum kes_numbers {
 static inline size_t kes_table_size(uint64_t h1, uint64_t h2) { return KES_TABLE_SIZE(h1, h2); }
 static inline size_t kes_signature_size(uint64_t h1, uint64_t h2) { return KES_SIGNATURE_SIZE(h1, h2); }
 static inline uint64_t kes_steps(uint64_t h1, uint64_t h2) { return KES_HEIGHTS_FIT(h1, h2) ? (uint64_t)1 << (h1 + h2) : 0; }
+
+/* Sizes of a cache of n entries and of the seeds that it is made from, 0 where n is not 1 to 256. */
+#define KES_FAIR_FITS(n) ((n) >= 1 && (n) <= KES_FAIR_MAX)
+#define KES_FAIR_CACHE_SIZE(n) (KES_FAIR_FITS(n) ? 4u + 128u * (size_t)(n) : 0u)
+#define KES_FAIR_SEEDS_SIZE(n) (KES_FAIR_FITS(n) ? 32u * (size_t)(n) : 0u)
+
+static inline size_t kes_fair_cache_size(uint64_t n) { return KES_FAIR_CACHE_SIZE(n); }
+static inline size_t kes_fair_seeds_size(uint64_t n) { return KES_FAIR_SEEDS_SIZE(n); }
 
 /* The number and the count in the answer of kes_make and kes_move. */
 static inline uint32_t kes_number(uint64_t answer) { return (uint32_t)answer; }
@@ -92,9 +108,26 @@ KES_CHECKED uint32_t kes_verify(uint64_t h1, uint64_t h2, const uint8_t *key, si
 /* BLAKE2b (RFC 7693), no key, 32-byte digest, of message into digest; for running vectors. Refuses 7, 4. */
 KES_CHECKED uint32_t kes_hash(const uint8_t *message, size_t message_len, uint8_t *digest, size_t digest_len);
 
+/* THE FAIR. A cache signs at n steps, each with a key of its own, in 160 bytes. The master's public key
+ * verifies all of them and says nothing of a desk: docs/HOST.md tells how a desk's own key vouches for it. */
+
+/* Makes a cache of n entries at step 0 from a master seed of 32 bytes and n seeds of 32 bytes, one behind the other; writes the
+ * master's public key to key, and zeroes master and seeds. Refuses 8, 2, 4. */
+KES_CHECKED uint32_t kes_fair_make(uint64_t n, uint8_t *master, size_t master_len, uint8_t *seeds, size_t seeds_len, uint8_t *cache, size_t cache_len, uint8_t *key, size_t key_len);
+
+/* Moves a cache to a later step and zeroes every entry before it. The last step is n - 1: a day ends when the host destroys the
+ * cache. Refuses 3, 6, 5. */
+KES_CHECKED uint32_t kes_fair_move(uint8_t *cache, size_t cache_len, uint64_t step);
+
+/* Signs a message at the cache's step, into KES_FAIR_SIGNATURE_SIZE bytes. Refuses 3, 7, 4. */
+KES_CHECKED uint32_t kes_fair_sign(const uint8_t *cache, size_t cache_len, const uint8_t *message, size_t message_len, uint8_t *signature, size_t signature_len);
+
+/* Verifies a signature over a message at a step of a fair of n entries. Answers KES_DONE or KES_NOT_ACCEPTED; refuses 8, 2, 4, 7, 6. */
+KES_CHECKED uint32_t kes_fair_verify(uint64_t n, const uint8_t *key, size_t key_len, uint64_t step, const uint8_t *message, size_t message_len, const uint8_t *signature, size_t signature_len);
+
 /* NOT PROVED: C beside the proofs. Clears what the calls left behind below its caller: KES_STACK bytes of dead stack, and on
- * x86-64 the registers that a call may leave as it likes. Call it after kes_make, kes_move and kes_sign, from the function that
- * called them or one that called that. docs/SECURITY.md says what it does not reach. */
+ * x86-64 the registers that a call may leave as it likes. Call it after each call that makes, moves or signs, the fair's too, from
+ * the function that called it or one that called that. docs/SECURITY.md says what it does not reach. */
 void kes_wipe(void);
 
 #ifdef __cplusplus
