@@ -1,5 +1,6 @@
 """Document 01's "Errors that look right", and some that only hostile input shows, each planted in the model, so that tests can show
-that a comparison notices it."""
+that a comparison notices it. Below them the same for the fair's cache."""
+from fair import ENTRY, Fair, fits
 from kes import DONE, LENGTH, TABLE, TALLEST, ZEROS, Scheme, read_body, read_header, signature_size, steps
 
 
@@ -90,3 +91,56 @@ class BodyJudged(Scheme):
 
 
 HOSTILE = [StepCut, LengthFirst, SeedGone, NextSeedGone, BodyJudged]
+
+
+class TwoBytes(Fair):
+    """The master signs i in two bytes."""
+
+    def vouched(self, i, vk):
+        return i.to_bytes(2, "little") + vk
+
+
+class HighestFirst(Fair):
+    """The master signs i highest byte first."""
+
+    def vouched(self, i, vk):
+        return i.to_bytes(4, "big") + vk
+
+
+class KeyFirst(Fair):
+    """The master signs vk, then i."""
+
+    def vouched(self, i, vk):
+        return super().vouched(i, vk)[4:] + super().vouched(i, vk)[:4]
+
+
+class SecretAlone(Fair):
+    """A move zeroes the secrets of entries alone."""
+
+    def moved(self, body, now, step):
+        entries = [body[at : at + 64] + ZEROS + body[at + 96 : at + ENTRY] for at in range(0, ENTRY * step, ENTRY)]
+        return b"".join(entries) + body[ENTRY * step :]
+
+
+class FromTheOldStep(Fair):
+    """A move zeroes the entries from the old step on."""
+
+    def moved(self, body, now, step):
+        return body[: ENTRY * now] + super().moved(body, now, step)[ENTRY * now :]
+
+
+class SeedsLeft(Fair):
+    """Making leaves the lent seeds."""
+
+    def spend(self, master, seeds):
+        super().spend(master, bytearray(seeds))
+
+
+class FairStepModulo(Fair):
+    """The fair's verifier takes the step modulo N, where number 6 is due."""
+
+    def verify(self, n, key, step, message, signature):
+        return super().verify(n, key, step % n if fits(n) else step, message, signature)
+
+
+FAIR = [TwoBytes, HighestFirst, KeyFirst, SecretAlone, FromTheOldStep, SeedsLeft, FairStepModulo]

@@ -5,6 +5,7 @@ import itertools
 import kes
 import standin
 from kes import Scheme, signature_size, steps, table_size, tree_size
+from orders import order, refused
 from planted import PLANTED
 
 MODEL = Scheme(standin)
@@ -154,30 +155,6 @@ def knows():
             table = at(h1, h2, t)
             held = [grows for seed, grows in key_seeds(h1, h2) if seed in table]
             assert [grows for grows in held if min(grows) <= t] == [range(t, t + 1)]
-            cases += 1
-    return cases
-
-
-def refused(call, *arguments):
-    """The number of a call, which must count 0 and leave every argument as it was."""
-    before = [bytes(argument) if isinstance(argument, bytearray) else argument for argument in arguments]
-    answer = call(*arguments)
-    assert before == list(arguments)
-    number, count = answer if isinstance(answer, tuple) else (answer, 0)
-    assert count == 0
-    return number
-
-
-def order(call, good, ways):
-    """Tries every mix of ways to be refused; the first number in 01's order is due. A way is a change of the good arguments."""
-    cases = 0
-    for mix in itertools.product(*[[{}] + changes for changes in ways.values()]):
-        due = [number for number, change in zip(ways, mix) if change]
-        if due:
-            arguments = dict(good)
-            for change in reversed(mix):
-                arguments.update(change)
-            assert refused(call, *arguments.values()) == due[0], (call, mix)
             cases += 1
     return cases
 
