@@ -11,15 +11,17 @@ HOST = pathlib.Path(__file__).resolve().parents[1]
 sys.dont_write_bytecode = True
 sys.path[:0] = [str(HOST / "test"), str(HOST / "model")]
 import corpus
+import fair
+import fair_calls
 import kes
 import sodium
-from library import HASH, MAKE, MOST, MOVE, READ_KEY, SIGN, VERIFY, Ended, Library
+from library import FAIR_MAKE, FAIR_MOVE, FAIR_SIGN, HASH, MAKE, MOST, MOVE, READ_KEY, SIGN, VERIFY, Ended, Library
 from modelled import NAMES, Model, asked, show
 from mutate import edge, spoiled
-from planted import HOSTILE, PLANTED
+from planted import FAIR, HOSTILE, PLANTED
 from rounds import Different, NoAnswer, main
 
-SIZES = [0, 1, 31, 32, 33, 127, 128, 129, kes.LONGEST - 1, kes.LONGEST, kes.LONGEST + 1, MOST]
+SIZES = [0, 1, 31, 32, 33, 127, 128, 129, kes.LONGEST - 1, kes.LONGEST, kes.LONGEST + 1, 2 * kes.LONGEST]
 # key pairs that a case may grow, at 0.1 ms or so each
 CHEAP, DEAR = 64, 2 ** (kes.TALLEST + 1)
 
@@ -94,8 +96,17 @@ def hashed(draw):
     return [HASH, 0, 0, 0, [some_message(draw), draw.randbytes(32), b""]]
 
 
+def fair_sign(draw):
+    return fair_calls.sign(draw, some_message(draw))
+
+
+def fair_verify(draw):
+    return fair_calls.verify(draw, some_message(draw))
+
+
 # in the order of their numbers: the calls, how often each is drawn, and how many buffers it is lent
-CALLS, WEIGHTS, BUFFERS = [make, read_key, move, sign, verify, hashed], [1, 1, 2, 2, 3, 1], [2, 2, 1, 3, 3, 2]
+CALLS = [make, read_key, move, sign, verify, hashed, fair_calls.make, fair_calls.move, fair_sign, fair_verify]
+WEIGHTS, BUFFERS = [1, 1, 2, 2, 3, 1, 1, 1, 1, 2], [2, 2, 1, 3, 3, 2, 4, 1, 3, 3]
 
 
 def heights_spoiled(draw, table):
@@ -110,8 +121,10 @@ def heights_spoiled(draw, table):
 
 
 def header_spoiled(draw, request):
-    """A field of a table's header at an edge value."""
+    """A field of a table's or a cache's header at an edge value."""
     table = request[4][0]
+    if request[0] in (FAIR_MOVE, FAIR_SIGN):
+        request[4][0] = fair_calls.header_spoiled(draw, table)
     if request[0] not in (READ_KEY, MOVE, SIGN) or len(table) < 8:
         return
     end = kes.steps(*[min(h, kes.TALLEST) for h in table[:2]])
@@ -125,6 +138,10 @@ def header_spoiled(draw, request):
 
 def number_spoiled(draw, request):
     at = draw.choice([1, 2, 3])
+    if request[0] >= FAIR_MAKE:
+        n = (fair.read_header(request[4][0]) or (0,))[0] if request[0] == FAIR_MOVE else request[1]
+        request[at] = edge(draw, request[at], n if at == 3 else fair.MOST + 1)
+        return
     found = kes.read_header(request[4][0]) if request[0] == MOVE else None
     h1, h2, now = found or (min(request[1], kes.TALLEST), min(request[2], kes.TALLEST), request[3])
     request[at] = edge(draw, now, kes.steps(h1, h2)) if at == 3 else edge(draw, request[at], kes.TALLEST + 1)
@@ -143,6 +160,8 @@ def grown(request):
     """How many key pairs a call grows at most."""
     op, h1, h2, step, (first, *_) = request
     found = kes.read_header(first)
+    if op == FAIR_MAKE and fair.fits(h1):
+        return asked(op, h1, h2, step, found)[0]
     if op == MAKE and max(h1, h2) <= kes.TALLEST:
         return asked(op, h1, h2, step, found)[0]
     if op == MOVE and found and found[2] < step < kes.steps(*found[:2]):
@@ -170,8 +189,8 @@ def told(outcome):
 class Comparison:
     """The library beside a model."""
 
-    def __init__(self, library, scheme=kes.Scheme):
-        self.library, self.model = library, Model(sodium, scheme)
+    def __init__(self, library, scheme=kes.Scheme, cache=fair.Fair):
+        self.library, self.model = library, Model(sodium, scheme, cache)
         self.case, self.show = hostile, show
 
     def check(self, request):
@@ -188,4 +207,5 @@ class Comparison:
 if __name__ == "__main__":
     with tempfile.TemporaryDirectory() as folder:
         compared = functools.partial(Comparison, Library(folder))
-        main(__file__, compared, {error.__doc__.rstrip("."): functools.partial(compared, error) for error in PLANTED + HOSTILE})
+        errors = [(error, {"scheme": error}) for error in PLANTED + HOSTILE] + [(error, {"cache": error}) for error in FAIR]
+        main(__file__, compared, {error.__doc__.rstrip("."): functools.partial(compared, **planted) for error, planted in errors})

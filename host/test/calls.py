@@ -7,16 +7,16 @@ import tempfile
 import time
 
 sys.dont_write_bytecode = True
-from library import HASH, MAKE, MOVE, READ_KEY, SIGN, VERIFY, Library
-from modelled import NAMES, Model, kes, show
+from library import FAIR_MAKE, FAIR_MOVE, FAIR_SIGN, FAIR_VERIFY, HASH, MAKE, MOVE, READ_KEY, SIGN, VERIFY, Library
+from modelled import NAMES, Model, fair, kes, show
 
 
-class Desk:
-    """Draws calls around keys that live on from call to call."""
+class Drawing:
+    """What every drawing of calls needs."""
 
     def __init__(self, draw, model):
         self.draw, self.model = draw, model
-        self.heights, self.table, self.key, self.signed = (0, 0), b"", bytes(32), None
+        self.key, self.signed = bytes(32), None
 
     def odd(self, data):
         """data, mostly as it is; else with a byte changed, cut, longer or empty."""
@@ -28,6 +28,15 @@ class Desk:
             return data[:at] + bytes([self.draw.randrange(256)]) + data[at + 1 :]
         return self.draw.choice([data[:-1], data + b"\0", b""])
 
+    def message(self):
+        return self.draw.randbytes(self.draw.choice([0, 1, 32, 40, 129, 4096, 4097]))
+
+
+class Desk(Drawing):
+    """Draws calls around keys that live on from call to call."""
+
+    heights, table = (0, 0), b""
+
     def height(self):
         return self.draw.choice([0, 1, 2, 3, 0, 1, 2, self.draw.choice([13, 255, 2**32, 2**63 + 1])])
 
@@ -35,9 +44,6 @@ class Desk:
         h1, h2 = self.heights
         last = kes.steps(h1, h2)
         return self.draw.choice([self.draw.randrange(last), self.draw.randrange(last), last - 1, last, 0, 2**32, 2**64 - 1])
-
-    def message(self):
-        return self.draw.randbytes(self.draw.choice([0, 1, 32, 40, 129, 4096, 4097]))
 
     def make(self):
         h1, h2 = self.height(), self.height()
@@ -94,15 +100,70 @@ class Desk:
         return self.draw.choice([self.make, self.read_key, self.move, self.move, self.move, self.sign, self.sign, self.verify, self.verify, self.hash])()
 
 
+class Fair(Drawing):
+    """Draws calls around caches that live on from call to call."""
+
+    n, cache = 1, b""
+
+    def count(self):
+        return self.draw.choice([1, 2, 3, 5, 9, 9, 9, self.draw.choice([0, 257, 2**32 + 2, 2**59, 2**64 - 1])])
+
+    def step(self):
+        return self.draw.choice([self.draw.randrange(self.n), self.draw.randrange(self.n), self.n - 1, self.n, 0, 2**16, 2**32, 2**64 - 1])
+
+    def make(self, n=None):
+        n = n or self.count()
+        size = min(n, fair.MOST)
+        master, seeds = bytes([self.draw.randrange(8)]) * 32, self.draw.randbytes(32 * size)
+        request = FAIR_MAKE, n, 0, 0, [self.odd(master), self.odd(seeds), self.odd(bytes(fair.cache_size(size))), self.odd(bytes(32))]
+        answer, _, (_, _, cache, key) = self.model.call(*request)
+        if answer == 0:
+            self.n, self.cache, self.key, self.signed = n, cache, key, None
+        return request
+
+    def move(self):
+        if self.draw.random() < 0.1:
+            header = fair.header(self.n, self.draw.randrange(self.n))
+            return FAIR_MOVE, 0, 0, self.step(), [header + self.draw.randbytes(fair.ENTRY * self.n)]
+        request = FAIR_MOVE, 0, 0, self.step(), [self.odd(self.cache)]
+        answer, _, (cache,) = self.model.call(*request)
+        if answer == 0 and request[4][0] == self.cache:
+            self.cache = cache
+        return request
+
+    def sign(self):
+        request = FAIR_SIGN, 0, 0, 0, [self.odd(self.cache), self.message(), self.odd(bytes(fair.SIGNATURE))]
+        answer, _, (cache, message, signature) = self.model.call(*request)
+        if answer == 0 and cache == self.cache:
+            self.signed = fair.read_header(cache)[1], message, signature
+        return request
+
+    def verify(self):
+        n, (step, message, signature) = self.n, self.signed or (0, b"", bytes(fair.SIGNATURE))
+        if self.draw.random() < 0.3:
+            step = self.step()
+        if self.draw.random() < 0.1:
+            message = self.message()
+        if self.draw.random() < 0.1:
+            n = self.count()
+        return FAIR_VERIFY, n, 0, step, [self.odd(self.key), message, self.odd(signature)]
+
+    def next(self):
+        if not self.cache:
+            return self.make(fair.MOST)
+        return self.draw.choice([self.make, self.move, self.move, self.sign, self.sign, self.verify, self.verify])()
+
+
 def main():
     seed = int(sys.argv[1]) if len(sys.argv) > 1 else 1
     cases = int(sys.argv[2]) if len(sys.argv) > 2 else 2500
     began, seen = time.time(), {}
     with tempfile.TemporaryDirectory() as folder:
         library, model = Library(folder), Model()
-        desk = Desk(random.Random(seed), model)
+        draw = random.Random(seed)
+        desk, fair_day = Desk(draw, model), Fair(draw, model)
         for _ in range(cases):
-            request = desk.next()
+            request = draw.choice([desk, desk, fair_day]).next()
             given, expected = library.call(*request), model.call(*request)
             if given != expected:
                 sys.exit(f"calls: the library and the model differ at\n{show(request)}\nlibrary {given}\nmodel {expected}")

@@ -1,6 +1,6 @@
 /* Calls the library as requests on standard input ask (lent.h says how), and writes to standard output what it answered and left.
- * A request: op (1 byte), h1, h2, step (8 bytes each), three lengths (4 each), three buffers; numbers lowest byte first.
- * An answer: the answer (8), how often each Ed25519 call was made (3 times 4), the three buffers as they were left. */
+ * A request: op (1 byte), h1, h2, step (8 bytes each), four lengths (4 each), four buffers; numbers lowest byte first.
+ * An answer: the answer (8), how often each Ed25519 call was made (3 times 4), the four buffers as they were left. */
 #include <stdio.h>
 #include <stdlib.h>
 

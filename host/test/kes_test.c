@@ -5,14 +5,14 @@
 
 #include "kes.h"
 
-enum { GUARD = 64, FILL = 0xa5, H1 = 1, H2 = 2, STEPS = 8, MOST = 4097 };
+enum { GUARD = 64, FILL = 0xa5, H1 = 1, H2 = 2, STEPS = 8, N = 3, MOST = 4097 };
 
 /* A buffer with guard bytes on both sides. */
 struct guarded {
     uint8_t room[GUARD + MOST + GUARD];
 };
 
-static struct guarded seed, table, key, signature, message, other;
+static struct guarded seed, seeds, table, cache, key, signature, message, other;
 static int failures;
 
 static void expect(int holds, const char *what)
@@ -61,6 +61,9 @@ static void sizes(void)
     expect(kes_signature_size(0, 0) == 224 && kes_signature_size(2, 2) == 352 && kes_signature_size(12, 12) == KES_SIGNATURE_MAX, "the signature's sizes");
     expect(kes_steps(2, 2) == 16 && kes_steps(12, 12) == 16777216, "the steps");
     expect(kes_table_size(13, 0) == 0 && kes_signature_size(0, 13) == 0 && kes_steps(UINT64_MAX, 0) == 0, "0 above height 12");
+    expect(kes_fair_cache_size(1) == 132 && kes_fair_cache_size(N) == 388 && kes_fair_cache_size(KES_FAIR_MAX) == KES_FAIR_CACHE_MAX, "the cache's sizes");
+    expect(kes_fair_seeds_size(1) == 32 && kes_fair_seeds_size(KES_FAIR_MAX) == 8192, "the sizes of a fair's seeds");
+    expect(kes_fair_cache_size(0) == 0 && kes_fair_cache_size(257) == 0 && kes_fair_seeds_size(0) == 0 && kes_fair_seeds_size(UINT64_MAX) == 0, "0 outside 1 to 256");
 }
 
 static void making(void)
@@ -170,6 +173,86 @@ static void hashing(const char *abc)
     expect(kes_hash(in(&message), 3, in(&other), 31) == KES_LENGTH, "a short digest is refused with 4");
 }
 
+/* A fresh cache of three entries, from a master seed of sevens and seeds of eights. */
+static uint32_t fair_make(void)
+{
+    clear(&seed);
+    clear(&seeds);
+    clear(&cache);
+    clear(&key);
+    memset(in(&seed), 7, KES_SEED_SIZE);
+    memset(in(&seeds), 8, kes_fair_seeds_size(N));
+    return kes_fair_make(N, in(&seed), KES_SEED_SIZE, in(&seeds), kes_fair_seeds_size(N), in(&cache), kes_fair_cache_size(N), in(&key), KES_KEY_SIZE);
+}
+
+/* The same with these lengths, over what stands there. */
+static uint32_t fair_remake(uint64_t n, size_t own, size_t given, size_t size, size_t key_len)
+{
+    return kes_fair_make(n, in(&seed), own, in(&seeds), given, in(&cache), size, in(&key), key_len);
+}
+
+static void fair_making(void)
+{
+    static struct guarded before[4];
+    expect(fair_make() == KES_DONE, "a cache is made");
+    expect(zero(in(&seed), KES_SEED_SIZE) && zero(in(&seeds), 96), "master seed and seeds are zero");
+    expect(guarded(&seed, KES_SEED_SIZE) && guarded(&seeds, 96) && guarded(&cache, 388) && guarded(&key, KES_KEY_SIZE), "making a cache writes nothing else");
+    before[0] = seed, before[1] = seeds, before[2] = cache, before[3] = key;
+    expect(fair_remake(0, 31, 95, 0, 0) == KES_ENTRIES && fair_remake(257, 32, 8224, 0, 0) == KES_ENTRIES, "8 comes first");
+    expect(fair_remake((uint64_t)1 << 32, 32, 96, 388, 32) == KES_ENTRIES, "no count wraps into a good one");
+    expect(fair_remake(N, 31, 96, 387, 32) == KES_SEED_OR_KEY && fair_remake(N, 32, 97, 388, 31) == KES_SEED_OR_KEY, "2 comes before 4");
+    expect(fair_remake(N, 32, 96, 389, 32) == KES_LENGTH && fair_remake(N, 32, 96, 388, 31) == KES_LENGTH, "a wrong cache or key is refused with 4");
+    expect(kes_fair_make(N, NULL, 0, NULL, 0, NULL, 0, NULL, 0) == KES_SEED_OR_KEY, "nothing lent is refused with 2");
+    expect(memcmp(&before[0], &seed, sizeof seed) == 0 && memcmp(&before[1], &seeds, sizeof seeds) == 0
+        && memcmp(&before[2], &cache, sizeof cache) == 0 && memcmp(&before[3], &key, sizeof key) == 0, "a refused make changes nothing");
+}
+
+static void fair_moving(void)
+{
+    fair_make();
+    other = cache;
+    expect(kes_fair_move(in(&cache), 388, 2) == KES_DONE, "a cache is moved over a step");
+    expect(zero(in(&cache) + 4, 256) && memcmp(in(&cache) + 260, in(&other) + 260, 128) == 0, "entries before the step are zero, and the others stay");
+    expect(guarded(&cache, 388), "moving a cache writes nothing else");
+    other = cache;
+    expect(kes_fair_move(in(&cache), 388, 2) == KES_NOT_LATER, "the cache's step is refused with 5");
+    expect(kes_fair_move(in(&cache), 388, N) == KES_PAST_END && kes_fair_move(in(&cache), 388, ((uint64_t)1 << 32) + 2) == KES_PAST_END, "step N is refused with 6, and no step wraps");
+    expect(kes_fair_move(in(&cache), 387, N) == KES_TABLE && kes_fair_move(NULL, 0, 0) == KES_TABLE, "a bad cache is refused with 3, before 6 and 5");
+    expect(memcmp(&other, &cache, sizeof cache) == 0, "a refused move changes nothing");
+}
+
+static void fair_signing(void)
+{
+    fair_make();
+    clear(&signature);
+    other = cache;
+    expect(kes_fair_sign(in(&cache), 388, NULL, 0, in(&signature), KES_FAIR_SIGNATURE_SIZE) == KES_DONE, "a cache signs no byte");
+    expect(kes_fair_sign(in(&cache), 388, in(&message), 40, in(&signature), KES_FAIR_SIGNATURE_SIZE) == KES_DONE, "a cache signs");
+    expect(guarded(&signature, KES_FAIR_SIGNATURE_SIZE) && memcmp(&other, &cache, sizeof cache) == 0, "a cache's signing writes the signature alone");
+    other = signature;
+    expect(kes_fair_sign(NULL, 0, in(&message), KES_MESSAGE_MAX + 1, NULL, 0) == KES_TABLE, "3 comes before 7 and 4");
+    expect(kes_fair_sign(in(&cache), 388, in(&message), KES_MESSAGE_MAX + 1, NULL, 0) == KES_TOO_LONG, "7 comes before 4");
+    expect(kes_fair_sign(in(&cache), 388, in(&message), 40, in(&signature), 161) == KES_LENGTH, "a long output is refused with 4");
+    expect(memcmp(&other, &signature, sizeof signature) == 0, "a refused signing changes nothing");
+}
+
+static uint32_t fair_verify(uint64_t n, uint64_t step, size_t key_len, size_t len, size_t signed_len)
+{
+    return kes_fair_verify(n, in(&key), key_len, step, in(&message), len, in(&signature), signed_len);
+}
+
+static void fair_verifying(void)
+{
+    fair_signing();
+    expect(fair_verify(N, 0, 32, 40, 160) == KES_DONE, "the fair's signature is accepted");
+    expect(fair_verify(N, 1, 32, 40, 160) == KES_NOT_ACCEPTED && fair_verify(N, 0, 32, 39, 160) == KES_NOT_ACCEPTED, "at another step or over another message it is not");
+    expect(fair_verify(N, N, 32, 40, 160) == KES_PAST_END, "step N is refused with 6, not taken modulo N");
+    expect(fair_verify(257, N, 31, KES_MESSAGE_MAX + 1, 0) == KES_ENTRIES && fair_verify(0, 0, 32, 40, 160) == KES_ENTRIES, "8 comes first");
+    expect(fair_verify(N, N, 31, KES_MESSAGE_MAX + 1, 0) == KES_SEED_OR_KEY, "then 2");
+    expect(fair_verify(N, N, 32, KES_MESSAGE_MAX + 1, 161) == KES_LENGTH, "then 4");
+    expect(fair_verify(N, N, 32, KES_MESSAGE_MAX + 1, 160) == KES_TOO_LONG, "then 7, before 6");
+}
+
 static void wiping(void)
 {
     make();
@@ -189,6 +272,9 @@ int main(int argc, char **argv)
     moving();
     verifying();
     hashing(argv[1]);
+    fair_making();
+    fair_moving();
+    fair_verifying();
     wiping();
     if (failures == 0)
         puts("kes_test: every call answers as it must");

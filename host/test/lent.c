@@ -18,6 +18,8 @@ static size_t page;
 static uint8_t *rooms[LENT];
 static uint8_t *lent[LENT];
 static uint32_t asked[3];
+/* A request of which nothing may be written yet, or none. */
+static const struct request *unwritten;
 
 /* The linker puts these before the adapter's functions, so that each call is counted. */
 void __real_desk_ed25519_public_key(const uint8_t *secret, uint8_t *out);
@@ -27,24 +29,6 @@ void __wrap_desk_ed25519_public_key(const uint8_t *secret, uint8_t *out);
 void __wrap_desk_ed25519_sign(const uint8_t *secret, const uint8_t *message, size_t len, uint8_t *out);
 uint32_t __wrap_desk_ed25519_verify(const uint8_t *key, const uint8_t *message, size_t len, const uint8_t *signature);
 
-void __wrap_desk_ed25519_public_key(const uint8_t *secret, uint8_t *out)
-{
-    asked[0]++;
-    __real_desk_ed25519_public_key(secret, out);
-}
-
-void __wrap_desk_ed25519_sign(const uint8_t *secret, const uint8_t *message, size_t len, uint8_t *out)
-{
-    asked[1]++;
-    __real_desk_ed25519_sign(secret, message, len, out);
-}
-
-uint32_t __wrap_desk_ed25519_verify(const uint8_t *key, const uint8_t *message, size_t len, const uint8_t *signature)
-{
-    asked[2]++;
-    return __real_desk_ed25519_verify(key, message, len, signature);
-}
-
 /* Ends the process from anywhere, a signal handler too. */
 static void stop(const char *why)
 {
@@ -52,6 +36,33 @@ static void stop(const char *why)
     if (write(STDERR_FILENO, why, len) != (ssize_t)len)
         _exit(2);
     abort();
+}
+
+static void count(size_t which)
+{
+    size_t i;
+    asked[which]++;
+    for (i = 0; unwritten != NULL && i < LENT; i++)
+        if (unwritten->len[i] > 0 && memcmp(lent[i], unwritten->bytes[i], unwritten->len[i]) != 0)
+            stop("lent: a buffer was written before Ed25519 was asked for the last time\n");
+}
+
+void __wrap_desk_ed25519_public_key(const uint8_t *secret, uint8_t *out)
+{
+    count(0);
+    __real_desk_ed25519_public_key(secret, out);
+}
+
+void __wrap_desk_ed25519_sign(const uint8_t *secret, const uint8_t *message, size_t len, uint8_t *out)
+{
+    count(1);
+    __real_desk_ed25519_sign(secret, message, len, out);
+}
+
+uint32_t __wrap_desk_ed25519_verify(const uint8_t *key, const uint8_t *message, size_t len, const uint8_t *signature)
+{
+    count(2);
+    return __real_desk_ed25519_verify(key, message, len, signature);
 }
 
 static void on_fault(int signal)
@@ -112,13 +123,13 @@ static void take(const struct request *r, size_t i, enum edge edge, struct outco
 
 static int read_only(int op, size_t i)
 {
-    static const int lent_to_read[CALLS] = {[READ_KEY] = 1, [SIGN] = 3, [VERIFY] = 7, [HASH] = 1};
+    static const int lent_to_read[CALLS] = {[READ_KEY] = 1, [SIGN] = 3, [VERIFY] = 7, [HASH] = 1, [FAIR_SIGN] = 3, [FAIR_VERIFY] = 7};
     return lent_to_read[op] >> i & 1;
 }
 
 static uint64_t call(const struct request *r)
 {
-    uint8_t *a = lent[0], *b = lent[1], *c = lent[2];
+    uint8_t *a = lent[0], *b = lent[1], *c = lent[2], *d = lent[3];
     const size_t *len = r->len;
     switch (r->op) {
     case MAKE: return kes_make(r->h1, r->h2, a, len[0], b, len[1]);
@@ -126,7 +137,11 @@ static uint64_t call(const struct request *r)
     case MOVE: return kes_move(a, len[0], r->step);
     case SIGN: return kes_sign(a, len[0], b, len[1], c, len[2]);
     case VERIFY: return kes_verify(r->h1, r->h2, a, len[0], r->step, b, len[1], c, len[2]);
-    default: return kes_hash(a, len[0], b, len[1]);
+    case HASH: return kes_hash(a, len[0], b, len[1]);
+    case FAIR_MAKE: return kes_fair_make(r->h1, a, len[0], b, len[1], c, len[2], d, len[3]);
+    case FAIR_MOVE: return kes_fair_move(a, len[0], r->step);
+    case FAIR_SIGN: return kes_fair_sign(a, len[0], b, len[1], c, len[2]);
+    default: return kes_fair_verify(r->h1, a, len[0], r->step, b, len[1], c, len[2]);
     }
 }
 
@@ -139,6 +154,7 @@ static void lend_at(const struct request *r, enum edge edge, int all_read_only, 
             protect(i, PROT_READ);
     }
     memset(asked, 0, sizeof asked);
+    unwritten = r->op == FAIR_MAKE ? r : NULL;
     alarm(TIME_LIMIT);
     o->answer = call(r);
     alarm(0);

@@ -3,6 +3,7 @@
  * The call is made twice: once each buffer ends where a page begins that must not be touched, once each begins where such a page
  * ends. A length of 0 goes as a pointer into that page the first time, as a null pointer the second. What kes.h lends read-only is
  * mapped read-only during the call, and everything is where the first time was refused: a refusal writes nothing.
+ * A fair's cache is made of nothing but answers that Ed25519 has given: until the last is given, every buffer has to be as it was lent.
  * A call that touches what it was not lent, does not end, or answers or leaves something else the second time ends the process. */
 #ifndef LENT_H
 #define LENT_H
@@ -10,8 +11,9 @@
 #include <stddef.h>
 #include <stdint.h>
 
-enum { MAKE, READ_KEY, MOVE, SIGN, VERIFY, HASH, CALLS };
-enum { LENT = 3, MOST = 8192 };
+enum { MAKE, READ_KEY, MOVE, SIGN, VERIFY, HASH, FAIR_MAKE, FAIR_MOVE, FAIR_SIGN, FAIR_VERIFY, CALLS };
+/* whole pages, with room for the largest cache and more */
+enum { LENT = 4, MOST = 36864 };
 
 /* Seconds after which a call is held to hang. */
 #ifndef TIME_LIMIT
@@ -20,7 +22,7 @@ enum { LENT = 3, MOST = 8192 };
 
 struct request {
     int op;
-    uint64_t h1, h2, step;
+    uint64_t h1, h2, step; /* h1 is also a fair's N */
     size_t len[LENT];
     uint8_t bytes[LENT][MOST];
 };

@@ -4,9 +4,9 @@ import struct
 import subprocess
 
 ROOT = pathlib.Path(__file__).resolve().parents[2]
-MAKE, READ_KEY, MOVE, SIGN, VERIFY, HASH = range(6)
-# of lent.h: the longest buffer that the driver takes
-MOST = 8192
+MAKE, READ_KEY, MOVE, SIGN, VERIFY, HASH, FAIR_MAKE, FAIR_MOVE, FAIR_SIGN, FAIR_VERIFY = range(10)
+# of lent.h: how many buffers a call is lent at most, and the longest that the driver takes
+LENT, MOST = 4, 36864
 BEHIND = {"sodium": "-lsodium", "openssl": "-lcrypto"}
 COUNTED = ["desk_ed25519_public_key", "desk_ed25519_sign", "desk_ed25519_verify"]
 STRICT = ["-std=c99", "-O1", "-Wall", "-Wextra", "-Wconversion", "-pedantic", "-Werror"]
@@ -35,11 +35,11 @@ class Library:
         self.process = subprocess.Popen([linked(folder, "kes_driver")], stdin=subprocess.PIPE, stdout=subprocess.PIPE)
 
     def call(self, op, h1, h2, step, buffers):
-        lengths = [len(b) for b in buffers]
-        self.process.stdin.write(struct.pack("<BQQQIII", op, h1, h2, step, *lengths) + b"".join(buffers))
+        lengths = [len(b) for b in buffers] + [0] * (LENT - len(buffers))
+        self.process.stdin.write(struct.pack("<BQQQIIII", op, h1, h2, step, *lengths) + b"".join(buffers))
         self.process.stdin.flush()
         answer, *asked = struct.unpack("<QIII", self.read(20))
-        return answer, asked, [self.read(n) for n in lengths]
+        return answer, asked, [self.read(len(b)) for b in buffers]
 
     def read(self, n):
         data = self.process.stdout.read(n)
