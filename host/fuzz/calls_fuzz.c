@@ -1,15 +1,16 @@
 /* A fuzzer's target: a good call with the input laid over it, made as host/test/lent.h says, over both adapters.
- * The fuzzer cannot see into the library. It sees due(), which says the number that document 01 wants, by kes.h's sizes. */
+ * The fuzzer cannot see into the library. It sees due(), which says the number that document 01 and CR 3 want, by kes.h's sizes. */
 #include <string.h>
 
 #include "../test/lent.h"
 #include "input.h"
 #include "kes.h"
 
-enum { H1 = 1, H2 = 2, STEPS = 8 };
+enum { H1 = 1, H2 = 2, STEPS = 8, N = 3 };
 
 static const uint8_t message[] = "111122223333444412500";
 static uint8_t key[KES_KEY_SIZE], tables[STEPS][KES_TABLE_SIZE(H1, H2)], signatures[STEPS][KES_SIGNATURE_SIZE(H1, H2)];
+static uint8_t fair_key[KES_KEY_SIZE], caches[N][KES_FAIR_CACHE_SIZE(N)], sales[N][KES_FAIR_SIGNATURE_SIZE];
 static struct request request;
 static struct outcome outcome;
 
@@ -22,6 +23,21 @@ static void need(uint64_t answer)
 int LLVMFuzzerInitialize(int *argc, char ***argv);
 int LLVMFuzzerTestOneInput(const uint8_t *data, size_t size);
 
+/* A fair's cache and signature at each of its steps. */
+static void make_fair(void)
+{
+    uint8_t master[KES_SEED_SIZE] = {1}, seeds[KES_FAIR_SEEDS_SIZE(N)] = {2};
+    size_t i;
+    need(kes_fair_make(N, master, sizeof master, seeds, sizeof seeds, caches[0], sizeof caches[0], fair_key, sizeof fair_key));
+    for (i = 0; i < N; i++) {
+        if (i > 0) {
+            memcpy(caches[i], caches[i - 1], sizeof caches[i]);
+            need(kes_fair_move(caches[i], sizeof caches[i], i));
+        }
+        need(kes_fair_sign(caches[i], sizeof caches[i], message, sizeof message, sales[i], sizeof sales[i]));
+    }
+}
+
 /* A key's table and signature at each of its steps. */
 int LLVMFuzzerInitialize(int *argc, char ***argv)
 {
@@ -29,6 +45,7 @@ int LLVMFuzzerInitialize(int *argc, char ***argv)
     size_t i;
     (void)argc, (void)argv;
     lend_start();
+    make_fair();
     need(kes_make(H1, H2, seed, sizeof seed, tables[0], sizeof tables[0]));
     need(kes_read_key(tables[0], sizeof tables[0], key, sizeof key));
     for (i = 0; i < STEPS; i++) {
@@ -48,10 +65,25 @@ static void lay(size_t i, const void *bytes, size_t len)
         memcpy(request.bytes[i], bytes, len);
 }
 
+/* A good call at a step of the fair. */
+static void lay_good_fair(int op, uint64_t step)
+{
+    request.op = op, request.h1 = N, request.step = op == FAIR_MOVE ? step + 1 : step;
+    if (op == FAIR_MAKE)
+        lay(0, NULL, KES_SEED_SIZE), lay(1, NULL, KES_FAIR_SEEDS_SIZE(N)), lay(2, NULL, sizeof caches[step]), lay(3, NULL, KES_KEY_SIZE);
+    if (op == FAIR_MOVE || op == FAIR_SIGN)
+        lay(0, caches[step], sizeof caches[step]);
+    if (op == FAIR_VERIFY)
+        lay(0, fair_key, sizeof fair_key), lay(2, sales[step], sizeof sales[step]);
+    if (op == FAIR_SIGN || op == FAIR_VERIFY)
+        lay(1, message, sizeof message);
+    if (op == FAIR_SIGN)
+        lay(2, NULL, sizeof sales[step]);
+}
+
 /* A good call at a step of the key. */
 static void lay_good(int op, uint64_t step)
 {
-    memset(&request, 0, sizeof request);
     request.op = op, request.h1 = H1, request.h2 = H2, request.step = op == MOVE ? step + 1 : step;
     if (op == READ_KEY || op == MOVE || op == SIGN)
         lay(0, tables[step], sizeof tables[step]);
@@ -79,6 +111,13 @@ static size_t off(size_t len, uint8_t by)
 static uint64_t step_of(const uint8_t *table)
 {
     return table[4] | (uint64_t)table[5] << 8 | (uint64_t)table[6] << 16 | (uint64_t)table[7] << 24;
+}
+
+static uint64_t two_bytes(const uint8_t *cache) { return cache[0] | (uint64_t)cache[1] << 8; }
+
+static int fair_well_formed(const uint8_t *cache, size_t len)
+{
+    return len >= 4 && KES_FAIR_FITS(two_bytes(cache)) && len == kes_fair_cache_size(two_bytes(cache)) && two_bytes(cache + 2) < two_bytes(cache);
 }
 
 static int well_formed(const uint8_t *table, size_t len)
@@ -141,9 +180,58 @@ static uint32_t due_to_verify(const struct request *r)
     return honest(r) ? KES_DONE : KES_NOT_ACCEPTED;
 }
 
+static uint32_t due_to_fair_make(const struct request *r)
+{
+    if (!KES_FAIR_FITS(r->h1))
+        return KES_ENTRIES;
+    if (r->len[0] != KES_SEED_SIZE || r->len[1] != kes_fair_seeds_size(r->h1))
+        return KES_SEED_OR_KEY;
+    return r->len[2] != kes_fair_cache_size(r->h1) || r->len[3] != KES_KEY_SIZE ? KES_LENGTH : KES_DONE;
+}
+
+static int fair_honest(const struct request *r)
+{
+    return r->step < N && r->len[1] == sizeof message && memcmp(r->bytes[1], message, sizeof message) == 0
+        && memcmp(r->bytes[0], fair_key, sizeof fair_key) == 0 && memcmp(r->bytes[2], sales[r->step], sizeof sales[0]) == 0;
+}
+
+static uint32_t due_to_fair_verify(const struct request *r)
+{
+    if (!KES_FAIR_FITS(r->h1))
+        return KES_ENTRIES;
+    if (r->len[0] != KES_KEY_SIZE)
+        return KES_SEED_OR_KEY;
+    if (r->len[2] != KES_FAIR_SIGNATURE_SIZE)
+        return KES_LENGTH;
+    if (r->len[1] > KES_MESSAGE_MAX)
+        return KES_TOO_LONG;
+    if (r->step >= r->h1)
+        return KES_PAST_END;
+    return fair_honest(r) ? KES_DONE : KES_NOT_ACCEPTED;
+}
+
+/* The number that CR 3 has for a call of the fair. */
+static uint32_t fair_due(const struct request *r)
+{
+    const uint8_t *cache = r->bytes[0];
+    if (r->op == FAIR_MAKE)
+        return due_to_fair_make(r);
+    if (r->op == FAIR_VERIFY)
+        return due_to_fair_verify(r);
+    if (!fair_well_formed(cache, r->len[0]))
+        return KES_TABLE;
+    if (r->op == FAIR_MOVE)
+        return r->step >= two_bytes(cache) ? KES_PAST_END : r->step <= two_bytes(cache + 2) ? KES_NOT_LATER : KES_DONE;
+    if (r->len[1] > KES_MESSAGE_MAX)
+        return KES_TOO_LONG;
+    return r->len[2] != KES_FAIR_SIGNATURE_SIZE ? KES_LENGTH : KES_DONE;
+}
+
 /* The number that document 01's table has for a call. */
 static uint32_t due(const struct request *r)
 {
+    if (r->op >= FAIR_MAKE)
+        return fair_due(r);
     if (r->op == MAKE)
         return due_to_make(r);
     if (r->op == VERIFY)
@@ -162,7 +250,11 @@ int LLVMFuzzerTestOneInput(const uint8_t *data, size_t size)
     struct input in = {data, size};
     size_t i;
     int op = next(&in) % CALLS;
-    lay_good(op, next(&in) % (op == MOVE ? STEPS - 1 : STEPS));
+    memset(&request, 0, sizeof request);
+    if (op >= FAIR_MAKE)
+        lay_good_fair(op, next(&in) % (op == FAIR_MOVE ? N - 1 : N));
+    else
+        lay_good(op, next(&in) % (op == MOVE ? STEPS - 1 : STEPS));
     request.h1 ^= wide(&in), request.h2 ^= wide(&in), request.step ^= wide(&in);
     for (i = 0; i < LENT; i++)
         request.len[i] = off(request.len[i], next(&in));

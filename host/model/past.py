@@ -1,5 +1,6 @@
 """What nobody may find at step t of a key: each seed from which a step up to t grows, each secret of those steps, and what Ed25519 makes
-of such a secret. What the table holds by document 01 is not among them: the secret of step t itself, and the seeds of later steps."""
+of such a secret. What the table holds by document 01 is not among them: the secret of step t itself, and the seeds of later steps.
+And what nobody may find at step t of a fair's cache: the master seed, the secrets of steps before t, and the same of these."""
 import hashlib
 import sys
 
@@ -23,8 +24,30 @@ def grown(seed, h, last):
     return found
 
 
-class Past:
+class Found:
     """names has each value of 32 bytes with what it is; present is the one secret of step t."""
+
+    def halves(self, name, digest):
+        self.names[digest[:32]] = self.names[digest[32:]] = name
+
+    def expanded(self, name, secret):
+        """RFC 8032, 5.1.5: the secret's digest, and the scalar."""
+        self.halves(f"{name}, its SHA-512", hashlib.sha512(secret).digest())
+        self.names[ed25519.expanded(secret)[0].to_bytes(32, "little")] = f"{name}, its scalar"
+
+    def nonce(self, secret, message):
+        """RFC 8032, 5.1.6: with a signature's r and the signature anyone finds the scalar."""
+        digest = hashlib.sha512(ed25519.expanded(secret)[1] + message).digest()
+        self.halves(f"{self.names[secret]}, a nonce", digest)
+        self.names[(ed25519.number(digest) % ed25519.L).to_bytes(32, "little")] = f"{self.names[secret]}, a nonce"
+
+    def words(self):
+        """Every value in words of 8 bytes, as it lies in memory and as it is hashed behind one byte (rule 1), as numbers, with its name."""
+        return {number_of(value[at : at + 8]): name for value, name in self.names.items() for at in (0, 8, 16, 24, 7, 15, 23)}
+
+
+class Past(Found):
+    """Of a key."""
 
     def __init__(self, seed, h1, h2, t, signatures=()):
         self.names, self.parents, self.children = {seed: "the key's seed"}, {}, {}
@@ -51,20 +74,17 @@ class Past:
             if leaf is not None:
                 secrets[first + leaf] = seed
 
-    def halves(self, name, digest):
-        self.names[digest[:32]] = self.names[digest[32:]] = name
 
-    def expanded(self, name, secret):
-        """RFC 8032, 5.1.5: the secret's digest, and the scalar."""
-        self.halves(f"{name}, its SHA-512", hashlib.sha512(secret).digest())
-        self.names[ed25519.expanded(secret)[0].to_bytes(32, "little")] = f"{name}, its scalar"
+class FairPast(Found):
+    """Of a fair's cache made from a master seed and these seeds, with each vk: what the master has signed is i in four bytes, then vk."""
 
-    def nonce(self, secret, message):
-        """RFC 8032, 5.1.6: with a signature's r and the signature anyone finds the scalar."""
-        digest = hashlib.sha512(ed25519.expanded(secret)[1] + message).digest()
-        self.halves(f"{self.names[secret]}, a nonce", digest)
-        self.names[(ed25519.number(digest) % ed25519.L).to_bytes(32, "little")] = f"{self.names[secret]}, a nonce"
-
-    def words(self):
-        """Every value in words of 8 bytes, as it lies in memory and as it is hashed behind one byte (rule 1), as numbers, with its name."""
-        return {number_of(value[at : at + 8]): name for value, name in self.names.items() for at in (0, 8, 16, 24, 7, 15, 23)}
+    def __init__(self, master, seeds, vks, t, signatures=()):
+        self.names = {master: "the master seed"} | {seed: f"the secret of entry {i}" for i, seed in enumerate(seeds[:t])}
+        self.present = seeds[t]
+        for secret, name in list(self.names.items()):
+            self.expanded(name, secret)
+        for i, vk in enumerate(vks):
+            self.nonce(master, i.to_bytes(4, "little") + vk)
+        for step, message in signatures:
+            if step < t:
+                self.nonce(seeds[step], message)

@@ -1,5 +1,5 @@
-/* stack: how far below its caller each call of kes.h reaches at heights 12 and 12, and that a thread with the least stack that kes.h
- * allows can make them all. Each is the first call of its process, so what the dynamic linker and the Ed25519 library do once counts. */
+/* stack: how far below its caller each call of kes.h reaches at heights 12 and 12 or with 256 entries, and that a thread with the least
+ * stack that kes.h allows can make them all. Each is the first call of its process, so what the dynamic linker and the Ed25519 library do once counts. */
 #define _GNU_SOURCE
 #include <pthread.h>
 #include <stdio.h>
@@ -9,12 +9,13 @@
 
 #include "painted.h"
 
-enum { H1 = KES_HEIGHT_MAX, H2 = KES_HEIGHT_MAX, DEPTHS = 4 };
+enum { H1 = KES_HEIGHT_MAX, H2 = KES_HEIGHT_MAX, N = KES_FAIR_MAX, DEPTHS = 4 };
 
 /* Shared by the processes, so that each finds what the one before it made. */
 struct lent {
     uint8_t seed[KES_SEED_SIZE], fresh[KES_TABLE_MAX], table[KES_TABLE_MAX], key[KES_KEY_SIZE], digest[KES_DIGEST_SIZE];
     uint8_t message[KES_MESSAGE_MAX], signature[KES_SIGNATURE_MAX];
+    uint8_t seeds[KES_FAIR_SEEDS_SIZE(N)], fair[KES_FAIR_CACHE_MAX], cache[KES_FAIR_CACHE_MAX], fair_key[KES_KEY_SIZE], sale[KES_FAIR_SIGNATURE_SIZE];
     uint64_t step, answer;
     size_t reach;
 };
@@ -59,6 +60,33 @@ static void hash(void)
     l->answer = kes_hash(l->message, sizeof l->message, l->digest, sizeof l->digest);
 }
 
+static void fair_make(void)
+{
+    HERE();
+    memset(l->seed, 7, sizeof l->seed);
+    memset(l->seeds, 8, sizeof l->seeds);
+    l->answer = kes_fair_make(N, l->seed, sizeof l->seed, l->seeds, sizeof l->seeds, l->fair, sizeof l->fair, l->fair_key, sizeof l->fair_key);
+}
+
+static void fair_move(void)
+{
+    HERE();
+    memcpy(l->cache, l->fair, sizeof l->cache);
+    l->answer = kes_fair_move(l->cache, sizeof l->cache, l->step);
+}
+
+static void fair_sign(void)
+{
+    HERE();
+    l->answer = kes_fair_sign(l->fair, sizeof l->fair, l->message, sizeof l->message, l->sale, sizeof l->sale);
+}
+
+static void fair_verify(void)
+{
+    HERE();
+    l->answer = kes_fair_verify(N, l->fair_key, sizeof l->fair_key, 0, l->message, sizeof l->message, l->sale, sizeof l->sale);
+}
+
 static const struct {
     const char *name;
     void (*run)(void);
@@ -73,6 +101,10 @@ static const struct {
     {"move to the child's last step", move, ((uint64_t)1 << H2) - 1},
     {"move to the next parent step", move, (uint64_t)1 << H2},
     {"move to the last step", move, ((uint64_t)1 << (H1 + H2)) - 1},
+    {"fair make", fair_make, 0},
+    {"fair sign", fair_sign, 0},
+    {"fair verify", fair_verify, 0},
+    {"fair move to the last step", fair_move, N - 1},
 };
 
 enum { CALLS = sizeof calls / sizeof calls[0] };

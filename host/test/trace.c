@@ -1,13 +1,14 @@
-/* A host whose memory is searched from outside (trace.py): it answers requests and keeps nothing of them but its table.
+/* A host whose memory is searched from outside (trace.py): it answers requests and keeps nothing of them but its table or cache.
  * Requests come by read, answers go by write, since stdio would keep copies in buffers of its own.
- * A request: op, h1, h2, 0, step (4 bytes), length (4), that many bytes, straight to where the call takes them from.
+ * A request: op, h1, h2, 0, step (4 bytes; a fair's N at its making), length (4), that many bytes, straight to where the call takes
+ * them from; a fair's master seed stands before its seeds.
  * An answer: 8 bytes; after signing, the signature too. Numbers are as the machine keeps them. */
 #include <stdlib.h>
 #include <unistd.h>
 
 #include "kes.h"
 
-enum { MAKE, MOVE, SIGN, WIPE };
+enum { MAKE, MOVE, SIGN, WIPE, FAIR_MAKE, FAIR_MOVE, FAIR_SIGN };
 
 struct request {
     uint8_t op, h1, h2, zero;
@@ -15,7 +16,8 @@ struct request {
 };
 
 static uint8_t seed[KES_SEED_SIZE], table[KES_TABLE_MAX], message[KES_MESSAGE_MAX], signature[KES_SIGNATURE_MAX];
-static size_t table_len, signature_len;
+static uint8_t seeds[KES_FAIR_SEEDS_SIZE(KES_FAIR_MAX)], cache[KES_FAIR_CACHE_MAX], key[KES_KEY_SIZE];
+static size_t table_len, cache_len, signature_len;
 
 static int got(void *to, size_t len)
 {
@@ -41,7 +43,18 @@ static uint64_t sign(const struct request *r)
 {
     if (r->len > sizeof message || !got(message, r->len))
         exit(1);
-    return kes_sign(table, table_len, message, r->len, signature, signature_len);
+    return r->op == SIGN ? kes_sign(table, table_len, message, r->len, signature, signature_len)
+                         : kes_fair_sign(cache, cache_len, message, r->len, signature, signature_len);
+}
+
+static uint64_t fair_make(const struct request *r)
+{
+    size_t seeds_len = kes_fair_seeds_size(r->step);
+    cache_len = kes_fair_cache_size(r->step);
+    signature_len = KES_FAIR_SIGNATURE_SIZE;
+    if (r->len != sizeof seed + seeds_len || !got(seed, sizeof seed) || !got(seeds, seeds_len))
+        exit(1);
+    return kes_fair_make(r->step, seed, sizeof seed, seeds, seeds_len, cache, cache_len, key, sizeof key);
 }
 
 static uint64_t answered(const struct request *r)
@@ -49,7 +62,10 @@ static uint64_t answered(const struct request *r)
     switch (r->op) {
     case MAKE: return make(r);
     case MOVE: return kes_move(table, table_len, r->step);
-    case SIGN: return sign(r);
+    case FAIR_MAKE: return fair_make(r);
+    case FAIR_MOVE: return kes_fair_move(cache, cache_len, r->step);
+    case SIGN:
+    case FAIR_SIGN: return sign(r);
     case WIPE: kes_wipe(); return 0;
     default: exit(1);
     }
@@ -62,7 +78,7 @@ int main(void)
     while (got(&r, sizeof r)) {
         answer = answered(&r);
         give(&answer, sizeof answer);
-        if (r.op == SIGN)
+        if (r.op == SIGN || r.op == FAIR_SIGN)
             give(signature, signature_len);
     }
     return 0;

@@ -1,6 +1,6 @@
 #!/usr/bin/env python3
-"""No trace of yesterday: in a process of its own (trace.c) a key is made, moved about and made to sign. All memory that the process can
-write is searched, at every byte, for every word of 8 bytes of the past: before kes_wipe some has to be found, and after it none.
+"""No trace of yesterday: in a process of its own (trace.c) a key, or a fair's cache, is made, moved about and made to sign. All memory that the process can
+write is searched, at every byte, for every word of 8 bytes of the past: before kes_wipe some of a key's has to be found, and after it none.
 Needs desk/build before."""
 import pathlib
 import random
@@ -14,12 +14,14 @@ import time
 ROOT = pathlib.Path(__file__).resolve().parents[2]
 sys.dont_write_bytecode = True
 sys.path.insert(0, str(ROOT / "host" / "model"))
+import fair
 import kes
+import sodium
 from library import program
-from past import Past, number_of
+from past import FairPast, Past, number_of
 from planted import SecretKept, SeedKept
 
-MAKE, MOVE, SIGN, WIPE = range(4)
+MAKE, MOVE, SIGN, WIPE, FAIR_MAKE, FAIR_MOVE, FAIR_SIGN = range(7)
 # heights, and the steps moved to: singly, in jumps, over one and over many of the parent's steps
 HISTORIES = [
     (0, 0, []),
@@ -30,6 +32,8 @@ HISTORIES = [
     (3, 2, [4, 5, 6, 21, 31]),
     (6, 6, [1, 63, 64, 65, 700, 2048, 3000]),
 ]
+# entries of a fair, and the steps moved to
+FAIRS = [(1, []), (3, [1, 2]), (24, [1, 5, 23]), (256, [1, 128, 255])]
 
 
 class Host:
@@ -82,11 +86,27 @@ def search(host, words):
 
 
 class Life:
-    """A key's life in a host, searched after each call."""
+    """A life in a host, searched after each call."""
 
+    def __init__(self, driver, draw):
+        self.host, self.draw, self.step, self.signatures, self.before = Host(driver), draw, 0, [], 0
+
+    def wipe(self):
+        """Searches, wipes, and searches again."""
+        past = self.past()
+        self.before += len(search(self.host, past.words()))
+        self.host.ask(WIPE)
+        after = search(self.host, past.words())
+        if after:
+            sys.exit("\n".join([f"trace: at step {self.step} of {self.name} there is still", *after]))
+        if not search(self.host, {number_of(past.present[:8]): "the present secret"}):
+            sys.exit("trace: the search does not even find the table")
+
+
+class KeyLife(Life):
     def __init__(self, driver, draw, h1, h2):
-        self.host, self.draw, self.heights, self.seed = Host(driver), draw, (h1, h2), draw.randbytes(32)
-        self.step, self.signatures, self.before = 0, [], 0
+        super().__init__(driver, draw)
+        self.heights, self.seed, self.name = (h1, h2), draw.randbytes(32), f"heights {h1} and {h2}"
         self.host.ask(MAKE, h1, h2, data=self.seed)
 
     def move(self, step):
@@ -98,21 +118,32 @@ class Life:
         signature = self.host.ask(SIGN, data=message, size=kes.signature_size(*self.heights))
         self.signatures.append((self.step, message, signature))
 
-    def wipe(self):
-        """Searches, wipes, and searches again."""
-        past = Past(self.seed, *self.heights, self.step, self.signatures)
-        self.before += len(search(self.host, past.words()))
-        self.host.ask(WIPE)
-        after = search(self.host, past.words())
-        if after:
-            sys.exit("\n".join([f"trace: at step {self.step} of heights {self.heights} there is still", *after]))
-        if not search(self.host, {number_of(past.present[:8]): "the present secret"}):
-            sys.exit("trace: the search does not even find the table")
+    def past(self):
+        return Past(self.seed, *self.heights, self.step, self.signatures)
 
 
-def wiped_after_each_call(driver, draw, h1, h2, steps):
+class FairLife(Life):
+    def __init__(self, driver, draw, n):
+        super().__init__(driver, draw)
+        self.master, self.seeds, self.name = draw.randbytes(32), [draw.randbytes(32) for _ in range(n)], f"a fair of {n}"
+        self.vks = [sodium.public_key(seed) for seed in self.seeds]
+        self.host.ask(FAIR_MAKE, step=n, data=self.master + b"".join(self.seeds))
+
+    def move(self, step):
+        self.host.ask(FAIR_MOVE, step=step)
+        self.step = step
+
+    def sign(self):
+        message = self.draw.randbytes(40)
+        self.host.ask(FAIR_SIGN, data=message, size=fair.SIGNATURE)
+        self.signatures.append((self.step, message))
+
+    def past(self):
+        return FairPast(self.master, self.seeds, self.vks, self.step, self.signatures)
+
+
+def wiped_after_each_call(life, steps):
     """Answers how many words of the past were found before a wipe."""
-    life = Life(driver, draw, h1, h2)
     life.wipe()
     for step in steps:
         life.move(step)
@@ -123,8 +154,7 @@ def wiped_after_each_call(driver, draw, h1, h2, steps):
     return life.before
 
 
-def wiped_at_the_end(driver, draw, h1, h2, steps):
-    life = Life(driver, draw, h1, h2)
+def wiped_at_the_end(life, steps):
     life.sign()
     for step in steps:
         life.move(step)
@@ -158,19 +188,40 @@ def planted():
             sys.exit(f"trace: {wrong.__name__} is not noticed")
 
 
+def fair_planted():
+    """The same of a cache: one that is moved holds nothing of the past, one that only says so does, and so does the master seed."""
+    master, seeds = bytes(range(32)), [bytes([i + 1]) * 32 for i in range(3)]
+    made, key, model = bytearray(fair.cache_size(3)), bytearray(32), fair.Fair(Blank)
+    model.make(3, bytearray(master), bytearray(b"".join(seeds)), made, key)
+    stale = fair.header(3, 2) + made[4:]
+    model.move(made, 2)
+    words = FairPast(master, seeds, [bytes(32)] * 3, 2).words()
+    if found(bytes(made), words) or not found(stale, words) or not found(master, words):
+        sys.exit("trace: what is past of a cache is not told from what is not")
+
+
+def lived(driver, draw, kind, *size, steps):
+    """Lives twice, and says what was found."""
+    began, name = time.time(), driver.name.replace("_", ": ")
+    life = kind(driver, draw, *size)
+    before = wiped_after_each_call(life, steps)
+    wiped_at_the_end(kind(driver, draw, *size), steps)
+    if kind is KeyLife and steps and before == 0:
+        sys.exit(f"{name}: nothing is found even before the wipe, at {life.name}")
+    print(f"{name}: {life.name}, {len(steps)} moves: {before} words before wiping, none after ({time.time() - began:.1f} s)")
+
+
 def main():
     planted()
+    fair_planted()
     draw = random.Random(1)
     with tempfile.TemporaryDirectory() as folder:
         for adapter in ("sodium", "openssl"):
             driver = program(folder, "trace", adapter)
             for h1, h2, steps in HISTORIES:
-                began = time.time()
-                before = wiped_after_each_call(driver, draw, h1, h2, steps)
-                wiped_at_the_end(driver, draw, h1, h2, steps)
-                if steps and before == 0:
-                    sys.exit(f"trace: {adapter}: nothing is found even before the wipe, at heights {h1} and {h2}")
-                print(f"trace: {adapter}: heights {h1} and {h2}, {len(steps)} moves: {before} words before wiping, none after ({time.time() - began:.1f} s)")
+                lived(driver, draw, KeyLife, h1, h2, steps=steps)
+            for n, steps in FAIRS:
+                lived(driver, draw, FairLife, n, steps=steps)
 
 
 main()
