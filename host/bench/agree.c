@@ -1,22 +1,24 @@
-/* agree [KEYS]: lives of random keys, in the proved library and in its plain peer. Every answer and every byte that is left must be the
- * same, on good requests and on spoiled ones. Always the same lives. */
+/* agree [KEYS]: lives of random keys and of random fairs' caches, in the proved library and in its plain peer. Every answer and every byte
+ * that is left must be the same, on good requests and on spoiled ones. Always the same lives. */
 #include <stdio.h>
 #include <stdlib.h>
 #include <string.h>
 
 #include <sodium.h>
 
+#include "fairs.h"
 #include "schemes.h"
 
-enum { MAKE, READ_KEY, MOVE, SIGN, VERIFY, CALLS };
-static const char *const names[CALLS] = {"make", "read key", "move", "sign", "verify"};
+enum { MAKE, READ_KEY, MOVE, SIGN, VERIFY, FAIR_MAKE, FAIR_MOVE, FAIR_SIGN, FAIR_VERIFY, CALLS };
+enum { KEY_CALLS = FAIR_MAKE, FAIR_CALLS = CALLS - KEY_CALLS };
+static const char *const names[CALLS] = {"make", "read key", "move", "sign", "verify", "fair make", "fair move", "fair sign", "fair verify"};
 
 /* A call's numbers and lengths, and the bytes lent, each buffer with room for one byte too many. */
 struct request {
-    uint64_t h1, h2, step;
-    size_t seed_len, table_len, key_len, message_len, signature_len;
+    uint64_t h1, h2, step, n;
+    size_t seed_len, table_len, key_len, message_len, signature_len, seeds_len, cache_len;
     uint8_t seed[KES_SEED_SIZE + 1], table[KES_TABLE_MAX + 1], key[KES_KEY_SIZE + 1], message[KES_MESSAGE_MAX + 1],
-        signature[KES_SIGNATURE_MAX + 1];
+        signature[KES_SIGNATURE_MAX + 1], seeds[KES_FAIR_SEEDS_SIZE(KES_FAIR_MAX) + 1], cache[KES_FAIR_CACHE_MAX + 1];
 };
 
 static struct request lent;
@@ -39,8 +41,20 @@ static void draw_bytes(uint8_t *bytes, size_t len)
         bytes[i] = (uint8_t)draw(256);
 }
 
-static uint64_t ask(const struct scheme *s, int call, struct request *r)
+static uint64_t ask_fair(const struct fair *f, int call, struct request *r)
 {
+    switch (call) {
+    case FAIR_MAKE: return f->make(r->n, r->seed, r->seed_len, r->seeds, r->seeds_len, r->cache, r->cache_len, r->key, r->key_len);
+    case FAIR_MOVE: return f->move(r->cache, r->cache_len, r->step);
+    case FAIR_SIGN: return f->sign(r->cache, r->cache_len, r->message, r->message_len, r->signature, r->signature_len);
+    default: return f->verify(r->n, r->key, r->key_len, r->step, r->message, r->message_len, r->signature, r->signature_len);
+    }
+}
+
+static uint64_t ask(const struct scheme *s, const struct fair *f, int call, struct request *r)
+{
+    if (call >= KEY_CALLS)
+        return ask_fair(f, call, r);
     switch (call) {
     case MAKE: return s->make(r->h1, r->h2, r->seed, r->seed_len, r->table, r->table_len);
     case READ_KEY: return s->read_key(r->table, r->table_len, r->key, r->key_len);
@@ -57,11 +71,11 @@ static uint32_t both(int call)
     static struct request peers;
     uint64_t answer, peer;
     peers = lent;
-    answer = ask(&library, call, &lent);
-    peer = ask(&plain, call, &peers);
+    answer = ask(&library, &library_fair, call, &lent);
+    peer = ask(&plain, &plain_fair, call, &peers);
     if (answer != peer || memcmp(&lent, &peers, sizeof lent) != 0) {
-        fprintf(stderr, "agree: library and plain C differ: %s at (%u,%u), step %u: %llx and %llx\n", names[call], (unsigned)lent.h1,
-                (unsigned)lent.h2, (unsigned)lent.step, (unsigned long long)answer, (unsigned long long)peer);
+        fprintf(stderr, "agree: library and plain C differ: %s at (%u,%u) or %u entries, step %u: %llx and %llx\n", names[call], (unsigned)lent.h1,
+                (unsigned)lent.h2, (unsigned)lent.n, (unsigned)lent.step, (unsigned long long)answer, (unsigned long long)peer);
         exit(1);
     }
     seen[kes_number(answer)]++;
@@ -71,28 +85,31 @@ static uint32_t both(int call)
 /* One wrong number, one wrong length or one changed byte. */
 static void spoil(void)
 {
-    uint64_t *numbers[3] = {&lent.h1, &lent.h2, &lent.step};
-    size_t *lengths[5] = {&lent.seed_len, &lent.table_len, &lent.key_len, &lent.message_len, &lent.signature_len};
-    uint8_t *bytes[4] = {lent.table, lent.key, lent.message, lent.signature};
-    size_t sizes[4] = {lent.table_len, lent.key_len, lent.message_len, lent.signature_len};
-    uint64_t which = draw(16);
-    if (which < 3)
+    enum { NUMBERS = 4, LENGTHS = 7, BYTES = 5 };
+    uint64_t *numbers[NUMBERS] = {&lent.h1, &lent.h2, &lent.step, &lent.n};
+    size_t *lengths[LENGTHS] = {&lent.seed_len, &lent.table_len, &lent.key_len, &lent.message_len, &lent.signature_len, &lent.seeds_len, &lent.cache_len};
+    uint8_t *bytes[BYTES] = {lent.table, lent.key, lent.message, lent.signature, lent.cache};
+    size_t sizes[BYTES] = {lent.table_len, lent.key_len, lent.message_len, lent.signature_len, lent.cache_len};
+    uint64_t which = draw(NUMBERS + LENGTHS + 2 * BYTES), at = which % BYTES;
+    if (which < NUMBERS)
         *numbers[which] = draw(2) ? draw(20) : UINT64_MAX - draw(20);
-    else if (which < 8)
-        *lengths[which - 3] = draw(2) ? draw(8) : *lengths[which - 3] + 1;
-    else if (sizes[which % 4] != 0)
-        bytes[which % 4][which < 12 ? draw(sizes[which % 4]) : draw(1 + (sizes[which % 4] - 1) / 8)] ^= (uint8_t)(1 + draw(255));
+    else if (which < NUMBERS + LENGTHS)
+        *lengths[which - NUMBERS] = draw(2) ? draw(8) : *lengths[which - NUMBERS] + 1;
+    else if (sizes[at] != 0)
+        bytes[at][draw(2) ? draw(sizes[at]) : draw(1 + (sizes[at] - 1) / 8)] ^= (uint8_t)(1 + draw(255));
 }
 
-/* Asks spoiled requests, moves mostly to a later step, and puts everything back. */
-static void spoiled(int times)
+/* Asks spoiled requests of so many calls from first on, moves mostly to a later step, and puts everything back. */
+static void spoiled(int times, int first, int calls)
 {
     static struct request good;
     good = lent;
     for (; times > 0; times--) {
-        int call = (int)draw(CALLS);
+        int call = first + (int)draw((uint64_t)calls);
         if (call == MOVE)
             lent.step += draw(kes_steps(lent.h1, lent.h2) - lent.step);
+        if (call == FAIR_MOVE)
+            lent.step += draw(lent.n - lent.step);
         spoil();
         both(call);
         lent = good;
@@ -109,17 +126,24 @@ static void must(int call)
 
 static void start(uint64_t h1, uint64_t h2)
 {
-    lent = (struct request){h1, h2, 0, KES_SEED_SIZE, kes_table_size(h1, h2), KES_KEY_SIZE, 0, kes_signature_size(h1, h2), {0}, {0}, {0}, {0}, {0}};
+    memset(&lent, 0, sizeof lent);
+    lent.h1 = h1, lent.h2 = h2;
+    lent.seed_len = KES_SEED_SIZE, lent.table_len = kes_table_size(h1, h2), lent.key_len = KES_KEY_SIZE, lent.signature_len = kes_signature_size(h1, h2);
     draw_bytes(lent.seed, KES_SEED_SIZE);
     must(MAKE);
     must(READ_KEY);
     draw_bytes(lent.seed, KES_SEED_SIZE);
 }
 
-static void sign_and_verify(void)
+static void draw_message(void)
 {
     lent.message_len = draw(20) == 0 ? KES_MESSAGE_MAX : draw(200);
     draw_bytes(lent.message, lent.message_len);
+}
+
+static void sign_and_verify(void)
+{
+    draw_message();
     must(SIGN);
     must(VERIFY);
 }
@@ -137,10 +161,43 @@ static void live(uint64_t h1, uint64_t h2)
     uint64_t last = kes_steps(h1, h2) - 1;
     start(h1, h2);
     sign_and_verify();
-    spoiled(12);
+    spoiled(12, MAKE, KEY_CALLS);
     while (lent.step < last) {
         go_to(lent.step + 1 + draw(1 + draw(last - lent.step)));
-        spoiled(12);
+        spoiled(12, MAKE, KEY_CALLS);
+    }
+}
+
+static void draw_seeds(void)
+{
+    draw_bytes(lent.seed, lent.seed_len);
+    draw_bytes(lent.seeds, lent.seeds_len);
+}
+
+static void start_fair(uint64_t n)
+{
+    memset(&lent, 0, sizeof lent);
+    lent.n = n;
+    lent.seed_len = KES_SEED_SIZE, lent.seeds_len = kes_fair_seeds_size(n), lent.cache_len = kes_fair_cache_size(n);
+    lent.key_len = KES_KEY_SIZE, lent.signature_len = KES_FAIR_SIGNATURE_SIZE;
+    draw_seeds();
+    must(FAIR_MAKE);
+    draw_seeds();
+}
+
+/* A fair's day in random strides, to its last step. */
+static void live_fair(uint64_t n)
+{
+    start_fair(n);
+    for (;;) {
+        draw_message();
+        must(FAIR_SIGN);
+        must(FAIR_VERIFY);
+        spoiled(12, KEY_CALLS, FAIR_CALLS);
+        if (lent.step == n - 1)
+            return;
+        lent.step += 1 + draw(1 + draw(n - 1 - lent.step));
+        must(FAIR_MOVE);
     }
 }
 
@@ -165,13 +222,16 @@ int main(int argc, char **argv)
         live(draw(5), draw(5));
     for (i = 0; i < HEIGHTS; i++)
         live_raced(heights[i].h1, heights[i].h2);
+    for (i = 0; i < keys; i++)
+        live_fair(1 + draw(12));
+    live_fair(KES_FAIR_MAX);
     for (i = 0; i <= KES_NOT_ACCEPTED; i++)
         if (seen[i] != 0)
             printf("agree: library and plain C both answer %d: %lu times\n", i, seen[i]);
-        else if (i <= KES_TOO_LONG || i == KES_NOT_ACCEPTED) {
+        else if (i <= KES_ENTRIES || i == KES_NOT_ACCEPTED) {
             fprintf(stderr, "agree: no request was answered %d\n", i);
             return 1;
         }
-    printf("agree: in %d lives of keys every answer and every byte left is the same\n", keys + HEIGHTS);
+    printf("agree: in %d lives of keys and %d of fairs every answer and every byte left is the same\n", keys + HEIGHTS, keys + 1);
     return 0;
 }
