@@ -93,6 +93,13 @@ fn show_made(n: u64, master: &mut [u8], seeds: &mut [u8], cache: &mut [u8], key:
     end_line();
 }
 
+fn show_signed(cache: &[u8], message: &[u8], signature: &mut [u8])
+    ensures { λ _. ⌜ (now (cache .exit) ≡ now (cache .entry)) × (now (message .exit) ≡ now (message .entry)) ⌝ }
+{
+    show_answer(fair::sign(cache, message, signature));
+    show_field(chained(signature));
+}
+
 // What signing so many bytes answers, and the output that it leaves.
 fn sign_at(cache: &[u8], len: usize, out: usize)
     requires { ⌜ (len ≤ 32900) × (out ≤ 32900) ⌝ }
@@ -100,26 +107,23 @@ fn sign_at(cache: &[u8], len: usize, out: usize)
 {
     let message = room();
     let mut signature = room();
-    show_answer(fair::sign(cache, &message[0..len], &mut signature[0..out]));
-    show_field(chained(&signature[0..out]));
+    show_signed(cache, &message[0..len], &mut signature[0..out]);
 }
 
 // A signature, and the verdicts at this step, at the next, and over another message.
-fn show_sale(n: u64, t: u64, cache: &[u8], key: &[u8])
+fn show_sale(n: u64, t: u64, cache: &[u8], key: &[u8], signature: &mut [u8])
     ensures { λ _. ⌜ (now (cache .exit) ≡ now (cache .entry)) × (now (key .exit) ≡ now (key .entry)) ⌝ }
 {
-    let mut signature = room();
-    show_answer(fair::sign(cache, b"top-up", &mut signature[0..160]));
-    show_field(chained(&signature[0..160]));
-    show_verdict(fair::verify(n, key, t, b"top-up", &signature[0..160]));
+    show_signed(cache, b"top-up", signature);
+    show_verdict(fair::verify(n, key, t, b"top-up", signature));
     show_verdict(fair::verify(
         n,
         key,
         std::num::wrapping_add_u64(t, 1),
         b"top-up",
-        &signature[0..160],
+        signature,
     ));
-    show_verdict(fair::verify(n, key, t, b"refund", &signature[0..160]));
+    show_verdict(fair::verify(n, key, t, b"refund", signature));
 }
 
 // The line of a step: a move to it, a second one and one past the end, which are refused, then the cache and a sale.
@@ -132,7 +136,8 @@ fn step(n: u64, t: u64, cache: &mut [u8], key: &[u8])
     show_answer(fair::move_to(cache, t));
     show_answer(fair::move_to(cache, n));
     show_field(chained(cache));
-    show_sale(n, t, cache, key);
+    let mut signature = room();
+    show_sale(n, t, cache, key, &mut signature[0..160]);
     end_line();
 }
 
@@ -147,6 +152,16 @@ fn day(n: u64, stride: u64, cache: &mut [u8], key: &[u8])
     }
 }
 
+// The line of a made cache, and its day.
+fn life(n: u64, stride: u64, master: &mut [u8], seeds: &mut [u8], cache: &mut [u8], key: &mut [u8])
+    requires { ⌜ (0 < stride) × (stride ≤ 256) × (n ≤ 256) ⌝ }
+{
+    io::write_all(STDOUT_FILENO, b"made");
+    show_number(n);
+    show_made(n, master, seeds, cache, key);
+    day(n, stride, cache, key);
+}
+
 fn fair_of(n: u64, stride: u64)
     requires { ⌜ (0 < stride) × (stride ≤ 256) × (n ≤ 256) ⌝ }
 {
@@ -156,26 +171,48 @@ fn fair_of(n: u64, stride: u64)
     let mut seeds = room();
     let mut cache = room();
     let mut key = room();
-    io::write_all(STDOUT_FILENO, b"made");
-    show_number(n);
-    show_made(
+    life(
         n,
+        stride,
         &mut master[0..32],
         &mut seeds[0..own],
         &mut cache[0..size],
         &mut key[0..32],
     );
-    day(n, stride, &mut cache[0..size], &key[0..32]);
+}
+
+fn put_cache(cache: &mut [u8])
+    requires { ⌜ length (now cache) ≡ 32900 ⌝ }
+    ensures { λ _. ⌜ length (now (cache .exit)) ≡ 32900 ⌝ }
+{
+    let mut master = room();
+    let mut seeds = room();
+    let mut key = room();
+    make(
+        3,
+        &mut master[0..32],
+        &mut seeds[0..96],
+        &mut cache[0..388],
+        &mut key[0..32],
+    );
 }
 
 // A fresh cache of three entries, in its room.
 fn fresh() -> [u8; 32900]
     ensures { λ r. ⌜ 32900 ≡ length r ⌝ }
 {
+    let mut cache = room();
+    put_cache(&mut cache);
+    cache
+}
+
+fn put_key(key: &mut [u8])
+    requires { ⌜ length (now key) ≡ 32900 ⌝ }
+    ensures { λ _. ⌜ length (now (key .exit)) ≡ 32900 ⌝ }
+{
     let mut master = room();
     let mut seeds = room();
     let mut cache = room();
-    let mut key = room();
     make(
         3,
         &mut master[0..32],
@@ -183,25 +220,21 @@ fn fresh() -> [u8; 32900]
         &mut cache[0..388],
         &mut key[0..32],
     );
-    cache
 }
 
 // Its key, in another.
 fn fresh_key() -> [u8; 32900]
     ensures { λ r. ⌜ 32900 ≡ length r ⌝ }
 {
-    let mut master = room();
-    let mut seeds = room();
-    let mut cache = room();
     let mut key = room();
-    make(
-        3,
-        &mut master[0..32],
-        &mut seeds[0..96],
-        &mut cache[0..388],
-        &mut key[0..32],
-    );
+    put_key(&mut key);
     key
+}
+
+fn show_moves(a: u64, b: u64, cache: &mut [u8]) {
+    show_answer(fair::move_to(cache, a));
+    show_answer(fair::move_to(cache, b));
+    show_field(chained(cache));
 }
 
 // The line of two moves of a fresh cache, either of which may be refused.
@@ -210,9 +243,7 @@ fn two_moves(a: u64, b: u64) {
     show_number(a);
     show_number(b);
     let mut cache = fresh();
-    show_answer(fair::move_to(&mut cache[0..388], a));
-    show_answer(fair::move_to(&mut cache[0..388], b));
-    show_field(chained(&cache[0..388]));
+    show_moves(a, b, &mut cache[0..388]);
     end_line();
 }
 
@@ -368,15 +399,26 @@ fn bad_headers() {
     cache_of(3, 257, 388);
 }
 
+fn sign_at_1(cache: &mut [u8], message: &[u8], signature: &mut [u8]) {
+    fair::move_to(cache, 1);
+    fair::sign(cache, message, signature);
+}
+
+fn put_sale(signature: &mut [u8])
+    requires { ⌜ length (now signature) ≡ 32900 ⌝ }
+    ensures { λ _. ⌜ length (now (signature .exit)) ≡ 32900 ⌝ }
+{
+    let mut cache = fresh();
+    let message = room();
+    sign_at_1(&mut cache[0..388], &message[0..40], &mut signature[0..160]);
+}
+
 // The signature of 40 bytes at step 1, in its room.
 fn sale() -> [u8; 32900]
     ensures { λ r. ⌜ 32900 ≡ length r ⌝ }
 {
-    let mut cache = fresh();
-    let message = room();
     let mut signature = room();
-    fair::move_to(&mut cache[0..388], 1);
-    fair::sign(&cache[0..388], &message[0..40], &mut signature[0..160]);
+    put_sale(&mut signature);
     signature
 }
 
