@@ -106,7 +106,7 @@ class Fair(Drawing):
     n, cache = 1, b""
 
     def count(self):
-        return self.draw.choice([1, 2, 3, 5, 9, 9, 9, self.draw.choice([0, 257, 2**32 + 2, 2**59, 2**64 - 1])])
+        return self.draw.choice([1, 2, 3, 4, 5, 5, 5, self.draw.choice([0, 257, 2**32 + 2, 2**59, 2**64 - 1])])
 
     def step(self):
         return self.draw.choice([self.draw.randrange(self.n), self.draw.randrange(self.n), self.n - 1, self.n, 0, 2**16, 2**32, 2**64 - 1])
