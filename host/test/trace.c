@@ -19,9 +19,18 @@ static uint8_t seed[KES_SEED_SIZE], table[KES_TABLE_MAX], message[KES_MESSAGE_MA
 static uint8_t seeds[KES_FAIR_SEEDS_SIZE(KES_FAIR_MAX)], cache[KES_FAIR_CACHE_MAX], key[KES_KEY_SIZE];
 static size_t table_len, cache_len, signature_len;
 
+/* A pipe may hand out a fair's seeds in pieces. */
 static int got(void *to, size_t len)
 {
-    return read(STDIN_FILENO, to, len) == (ssize_t)len;
+    uint8_t *at = to;
+    while (len > 0) {
+        ssize_t more = read(STDIN_FILENO, at, len);
+        if (more <= 0)
+            return 0;
+        at += more;
+        len -= (size_t)more;
+    }
+    return 1;
 }
 
 static void give(const void *from, size_t len)

@@ -1,7 +1,7 @@
 #!/usr/bin/env python3
-"""No trace of yesterday: in a process of its own (trace.c) a key, or a fair's cache, is made, moved about and made to sign. All memory that the process can
-write is searched, at every byte, for every word of 8 bytes of the past: before kes_wipe some of a key's has to be found, and after it none.
-Needs desk/build before."""
+"""No trace of yesterday: in a process of its own (trace.c) a key, or a fair's cache, is made, moved about and made to sign. All memory
+that the process can write is searched, at every byte, for every word of 8 bytes of the past: before kes_wipe some of a key's has to be
+found, and after it none. Needs desk/build before."""
 import pathlib
 import random
 import re
