@@ -9,26 +9,12 @@
 #include <string.h>
 
 #include "desk/desk.h"
-#include "desk/record.h"
-#include "desk/show.h"
+#include "desk/events.h"
 
 static int usage(void)
 {
     fputs("usage: desk_day FOLDER make [H1 H2] | day <EVENTS\n", stderr);
     return 2;
-}
-
-static int top_up(const char *line)
-{
-    char card[CARD_DIGITS + 1];
-    uint64_t amount;
-    int gap = 0, end = 0;
-    if (sscanf(line, "top-up %16[0-9]%n %7" SCNu64 "%n", card, &gap, &amount, &end) != 2 || line[gap] != ' ' || strcmp(line + end, "\n") != 0)
-        return 0;
-    if (strlen(card) != CARD_DIGITS || amount < 1 || amount > AMOUNT_MOST)
-        return 0;
-    desk_top_up(card, amount);
-    return 1;
 }
 
 static int tick(const char *line)
@@ -41,19 +27,15 @@ static int tick(const char *line)
     return 1;
 }
 
+static int top_up_or_tick(const char *line)
+{
+    return event_money(line, "top-up", desk_top_up) || tick(line);
+}
+
 static int day(const char *folder)
 {
-    char line[80];
-    int status = 0;
     desk_open(folder);
-    while (fgets(line, sizeof line, stdin) != NULL)
-        if (!top_up(line) && !tick(line)) {
-            fprintf(stderr, "desk: not understood: %s", line);
-            status = 1;
-        }
-    if (ferror(stdin))
-        failed("standard input");
-    return status;
+    return events_do(top_up_or_tick);
 }
 
 static int make(const char *folder, const char *first, const char *second)

@@ -3,7 +3,7 @@
 #ifndef DESK_H
 #define DESK_H
 
-#include <stdint.h>
+#include "registered.h"
 
 /* Makes the folder's key, at step 0, and its journal. */
 void desk_make(const char *folder, uint64_t h1, uint64_t h2);
@@ -16,5 +16,12 @@ void desk_top_up(const char *card, uint64_t amount);
 
 /* What the clock says: moves the key, if the step is a later one. */
 void desk_tick(uint64_t step);
+
+/* What an open desk is registered as, and the step that it stands at. */
+const struct registered *desk_registered(void);
+uint64_t desk_step(void);
+
+/* Signs a text at the desk's step, into bytes of signature_size. */
+void desk_sign(const char *text, size_t len, uint8_t *signature);
 
 #endif

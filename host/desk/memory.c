@@ -11,16 +11,27 @@
 
 #include "show.h"
 
-static void *guarded;
-static size_t guarded_len;
+/* Of the desk and of the fair. */
+static struct {
+    void *secrets;
+    size_t len;
+} guarded[2];
+static size_t guards;
 
 /* The writes are volatile: a compiler would leave out plain ones, since nothing reads the bytes again. */
-static void wipe_guarded(void)
+void memory_clear(void *secrets, size_t len)
 {
-    volatile unsigned char *at = guarded;
+    volatile unsigned char *at = secrets;
     size_t i;
-    for (i = 0; i < guarded_len; i++)
+    for (i = 0; i < len; i++)
         at[i] = 0;
+}
+
+static void clear_guarded(void)
+{
+    size_t i;
+    for (i = 0; i < guards; i++)
+        memory_clear(guarded[i].secrets, guarded[i].len);
 }
 
 static void keep_from_core_files(void)
@@ -34,14 +45,21 @@ static void keep_from_core_files(void)
 #endif
 }
 
-void memory_guard(void *secrets, size_t len)
+/* Done once, since it is for the whole program. */
+static void begin(void)
 {
-    guarded = secrets;
-    guarded_len = len;
-    if (atexit(wipe_guarded) != 0)
+    if (atexit(clear_guarded) != 0)
         refuse("the clearing of memory cannot be arranged");
     keep_from_core_files();
     /* a desk without the right to lock much memory still works */
     if (mlockall(MCL_CURRENT | MCL_FUTURE) != 0)
         perror("desk: warning: the key may reach the swap space");
+}
+
+void memory_guard(void *secrets, size_t len)
+{
+    if (guards == 0)
+        begin();
+    guarded[guards].secrets = secrets;
+    guarded[guards++].len = len;
 }

@@ -1,10 +1,10 @@
-/* record.h: the lines of a journal, as document 01 has them. */
+/* record.h: the records of a journal, as document 01 has them. */
 #ifndef RECORD_H
 #define RECORD_H
 
 #include "kes.h"
 
-enum { CARD_DIGITS = 16, AMOUNT_MOST = 2000000, LINE_MOST = 2048, HEADER_MOST = 75, MESSAGE_MOST = 64 };
+enum { CARD_DIGITS = 16, AMOUNT_MOST = 2000000, LINE_MOST = 2048, MESSAGE_MOST = 64 };
 #define SERIAL_MOST UINT32_MAX
 
 struct record {
@@ -14,8 +14,10 @@ struct record {
     uint8_t signature[KES_SIGNATURE_MAX];
 };
 
-/* A line with its LF, and its length: line 1, and a record's. */
-size_t header_line(char line[LINE_MOST], uint64_t h1, uint64_t h2, const uint8_t key[KES_KEY_SIZE]);
+/* Whether a card, of digits, and an amount are in document 01's range. */
+int is_money(const char *card, uint64_t amount);
+
+/* A line with its LF, and its length. */
 size_t record_line(char line[LINE_MOST], const struct record *record);
 
 /* What is signed: the digits of card, serial and amount, run together. */

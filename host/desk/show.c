@@ -14,7 +14,7 @@
 
 void show(const char *format, ...)
 {
-    char line[256];
+    char line[512];
     va_list values;
     int len;
     va_start(values, format);

@@ -1,5 +1,6 @@
-/* Stands between the example desk and the system, for host/test/crash.py: each call that was made is a line in the file that
- * DESK_LOG names, the seed is 0, 1, 2, .., and nothing is synced in earnest, since crash.py says what a power cut leaves.
+/* Stands between the example desk and the system, for host/test/crashes.py: each call that was made is a line in the file that
+ * DESK_LOG names, random bytes are DESK_RANDOM and the numbers after it, and nothing is synced in earnest, since crashes.py says what a
+ * power cut leaves.
  *   DESK_STOP=n    the process ends before call n
  *   DESK_FAIL=n    call n is not made and fails
  *   DESK_BROKEN=1  what a signal can break off is broken off once, and what is read or written comes in pieces
@@ -203,11 +204,12 @@ off_t __wrap_lseek(int file, off_t at, int from)
 
 int __wrap_getentropy(void *bytes, size_t len)
 {
+    static long drawn;
     size_t i;
     if (fails(WHOLE))
         return -1;
     for (i = 0; i < len; i++)
-        ((uint8_t *)bytes)[i] = (uint8_t)i;
+        ((uint8_t *)bytes)[i] = (uint8_t)(asked("DESK_RANDOM") + drawn++);
     note("random\n");
     return 0;
 }
