@@ -220,7 +220,7 @@ def catch(kind, what, said, edits):
         sys.exit(f"crash: not noticed: {what}")
 
 
-def crash(kind, asks, wrong_desks):
+def crash(kind, asks, wrong_desks=()):
     """Asks all of a program, and that wrong ones are caught."""
     began = time.time()
     try:
@@ -232,4 +232,4 @@ def crash(kind, asks, wrong_desks):
         sys.exit(f"crash: {wrong}")
     for wrong_desk in wrong_desks:
         catch(kind, *wrong_desk)
-    print(f"crash: each of {len(wrong_desks)} desks that work in a wrong order is caught ({time.time() - began:.0f} s)")
+    print(f"crash: wrong desks that are caught: {len(wrong_desks)} ({time.time() - began:.0f} s)")

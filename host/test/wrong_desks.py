@@ -1,4 +1,4 @@
-"""Desks that work in a wrong order: edits of the example desk, each with what crash.py has to say of it."""
+"""Desks that work in a wrong order: edits of the example desk, each with what crash.py or fair_crash.py has to say of it."""
 
 LINE, LF = "    file_write(file, line, len - 1);\n", "    file_write(file, line + len - 1, 1);\n"
 SYNC = "    file_sync(file);\n"
@@ -51,3 +51,31 @@ WRONG = [
     ("the key stays in memory", "memory holds a secret", [("        at[i] = 0;\n", "        (void)at[i];\n")]),
     ("the key gets its name before the journal is there", STUCK, [("    store_header();\n" + NAMED, NAMED + "    store_header();\n")]),
 ]
+
+CERTIFIED = "    store_certificate();\n"
+WRITTEN, MOVES_ON, CACHE_NAMED = "    secret_write_new(&CACHE, fair.cache, fair.cache_len);\n", "    desk_tick(desk_step() + 1);\n", "    secret_name_new(&CACHE);\n"
+STORE_SALE, PRINT, SHOW, MOVE = "    store_sale(&sale);\n", "    print_receipt(&sale);\n", "    show_done(&sale);\n", "    move_on();\n"
+FINISH = """    if (sold == cache_step() + 1)
+        finish(&last);
+"""
+NOT_MOVED, NO_CERTIFICATE = "the desk's key has not moved on", "the certificate is not on the disk"
+LACKS_SALE, NOT_NEXT = "lacks a sale", "the cache is not that of the next sale"
+
+WRONG_FAIRS = [
+    ("the desk's key moves on after the cache can sell", NOT_MOVED, [(MOVES_ON + CACHE_NAMED, CACHE_NAMED + MOVES_ON)]),
+    ("the desk's key moves on after the first sale", NOT_MOVED, [(MOVES_ON, ""), ("certificate->step >= desk_step()", "0"), (PRINT + SHOW + MOVE, PRINT + SHOW + MOVE + MOVES_ON)]),
+    ("the desk's key moves on before the certificate is stored", NO_CERTIFICATE, [(CERTIFIED + WRITTEN + MOVES_ON, WRITTEN + MOVES_ON + CERTIFIED)]),
+    ("the desk's key moves on before the certificate is synced", NO_CERTIFICATE, [("    file_write(file, first, len);\n" + SYNC, "    file_write(file, first, len);\n")]),
+    ("a receipt before the sale is stored", LACKS_SALE, [(STORE_SALE + PRINT, PRINT + STORE_SALE)]),
+    ("the cache moves before the sale is stored", STUCK, [(STORE_SALE + PRINT + SHOW + MOVE, MOVE + STORE_SALE + PRINT + SHOW)]),
+    ("the cache moves before the receipt is printed", "is not named", [(PRINT + SHOW + MOVE, MOVE + PRINT + SHOW)]),
+    ("the next start sells a second time at the last sale's step", NOT_NEXT, [("    print_receipt(last);\n" + MOVE, "    print_receipt(last);\n")]),
+    ("the next start does not name the last sale", "is not named", [(FINISH, "    (void)finish;\n" + FINISH.replace("finish(&last)", "move_on()"))]),
+    ("the next start leaves cache.new", "other files", [("    desk_open(folder);\n    secret_tidy(&CACHE);\n", "    desk_open(folder);\n")]),
+    ("the cache is zeroed under its own name", STUCK, [("    file_rename(secret->name, secret->name_old);\n    folder_sync();\n" + TIDY_OLD, "    file_discard(secret->name);\n")]),
+    ("the evening leaves the cache", "other files", [("    if (fair.cache_len > 0)\n        destroy_cache();\n", "")]),
+    ("the cache stays in memory", "memory holds a secret", [("    memory_guard(&fair, sizeof fair);\n", "")]),
+]
+
+# where the last step is sold
+WRONG_ENDS = [("the last sale leaves the cache", NOT_NEXT, [("        destroy_cache();\n        return;\n", "        return;\n")])]
