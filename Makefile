@@ -2,7 +2,7 @@
 .PHONY: help demo test desk install bench plot fuzz clean
 
 help:
-	@echo 'make demo    build everything for the desk and show a short day of it'
+	@echo 'make demo    build everything for the desk and show a short day of it, and one at a fair'
 	@echo 'make test    every check there is: host tests, then the gate (rt ci)'
 	@echo 'make desk    build/: the library and programs with real Ed25519 (ED25519=sodium or openssl)'
 	@echo 'make install puts library, header, journal and man pages under PREFIX (and DESTDIR)'

@@ -71,7 +71,7 @@ WRONG_FAIRS = [
     ("the cache moves before the receipt is printed", "is not named", [(PRINT + SHOW + MOVE, MOVE + PRINT + SHOW)]),
     ("the next start sells a second time at the last sale's step", NOT_NEXT, [("    print_receipt(last);\n" + MOVE, "    print_receipt(last);\n")]),
     ("the next start does not name the last sale", "is not named", [(FINISH, "    (void)finish;\n" + FINISH.replace("finish(&last)", "move_on()"))]),
-    ("the next start leaves cache.new", "other files", [("    desk_open(folder);\n    secret_tidy(&CACHE);\n", "    desk_open(folder);\n")]),
+    ("the next start leaves cache.new", "other files", [("    secret_tidy(&CACHE);\n", "    file_discard(CACHE.name_old);\n")]),
     ("the cache is zeroed under its own name", STUCK, [("    file_rename(secret->name, secret->name_old);\n    folder_sync();\n" + TIDY_OLD, "    file_discard(secret->name);\n")]),
     ("the evening leaves the cache", "other files", [("    if (fair.cache_len > 0)\n        destroy_cache();\n", "")]),
     ("the cache stays in memory", "memory holds a secret", [("    memory_guard(&fair, sizeof fair);\n", "")]),
