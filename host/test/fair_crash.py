@@ -106,6 +106,7 @@ class Fair(Program):
             return runs[-1]
 
         if "cache" not in by_name(files) and not sold(files):
+            need(by_name(self.well(files, "evening").files).keys() <= {"journal", "key", "fair"}, "a morning that is given up leaves other files")
             files = go("morning", self.entries).files
         opened = go("day") if "cache" in by_name(files) else go("evening")
         if "cache" in by_name(opened.files):
