@@ -1,7 +1,7 @@
 /* The order of work of a fair's day:
  *
- *     the morning:  make the cache, sign its certificate with the desk's key, append that to the fair's file, sync, write cache.new,
- *                   sync, move the desk's key on as at a tick, rename cache.new to cache, sync
+ *     the morning:  make the cache, certify it with the desk's key, write the certificate as the fair's first line, sync, write
+ *                   cache.new, sync, move the desk's key on as at a tick, rename cache.new to cache, sync
  *     a sale:       sign, check, append the record, sync, append its LF, sync, print the receipt, show "done", and only then
  *                   move the cache, and replace its file as a tick replaces the key's
  *     the evening:  rename cache to cache.old, sync, zero it, sync, remove it
@@ -122,11 +122,17 @@ void fair_morning(const char *folder, uint64_t entries)
     show("fair: %" PRIu64 " sales, certified at the desk's step %" PRIu64 "\n", entries, fair.certificate.step);
 }
 
-/* Answers whether there is a cache. One whose header or length is wrong was not left by a crash. */
+/* No crash leaves a cache whose header does not fit it. */
+static int is_cache(void)
+{
+    return fair.cache_len >= 4 && fair.cache_len == KES_FAIR_CACHE_SIZE(cache_entries()) && cache_step() < cache_entries();
+}
+
+/* Answers whether there is a cache. */
 static int open_cache(void)
 {
     fair.cache_len = secret_read(&CACHE, fair.cache, sizeof fair.cache);
-    if (fair.cache_len > 0 && (fair.cache_len < 4 || fair.cache_len != KES_FAIR_CACHE_SIZE(cache_entries()) || cache_step() >= cache_entries()))
+    if (fair.cache_len > 0 && !is_cache())
         refuse("the cache is damaged; no more can be sold with it");
     return fair.cache_len > 0;
 }
