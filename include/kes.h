@@ -126,8 +126,8 @@ KES_CHECKED uint32_t kes_fair_sign(const uint8_t *cache, size_t cache_len, const
 KES_CHECKED uint32_t kes_fair_verify(uint64_t n, const uint8_t *key, size_t key_len, uint64_t step, const uint8_t *message, size_t message_len, const uint8_t *signature, size_t signature_len);
 
 /* NOT PROVED: C beside the proofs. Clears what the calls left behind below its caller: KES_STACK bytes of dead stack, and on
- * x86-64 the registers that a call may leave as it likes. Call it after each call that makes, moves or signs, the fair's too, from
- * the function that called it or one that called that. docs/SECURITY.md says what it does not reach. */
+ * x86-64 and 64-bit Arm the registers that a call may leave as it likes. Call it after each call that makes, moves or signs, the
+ * fair's too, from the function that called it or one that called that. docs/SECURITY.md says what it does not reach. */
 void kes_wipe(void);
 
 #ifdef __cplusplus

@@ -1,5 +1,5 @@
 /* wipe stack: kes_wipe clears KES_STACK bytes right below its caller, nothing of its caller's, and nothing past a guard page.
- * wipe registers: it leaves zeros in every register that the ABI lets a call leave as it likes (x86-64). */
+ * wipe registers: it leaves zeros in every register that the ABI lets a call leave as it likes (x86-64, 64-bit Arm). */
 #define _GNU_SOURCE
 #include <signal.h>
 #include <stdio.h>
@@ -76,6 +76,18 @@ static void ends_at_the_guard(void)
     expect(i == below, "nothing is written past the guard page");
 }
 
+#if defined(__x86_64__) || defined(__aarch64__)
+
+static int zero(const uint8_t *bytes, size_t len)
+{
+    size_t i = 0;
+    while (i < len && bytes[i] == 0)
+        i++;
+    return i == len;
+}
+
+#endif
+
 #if defined(__x86_64__)
 
 /* As XSAVE lays them out: xmm in the old part, and from 576 on the parts of AVX and AVX-512, which the mask names. */
@@ -130,14 +142,6 @@ static uint64_t call_with_full_registers(void)
     return others;
 }
 
-static int zero(const uint8_t *bytes, size_t len)
-{
-    size_t i = 0;
-    while (i < len && bytes[i] == 0)
-        i++;
-    return i == len;
-}
-
 static void registers(void)
 {
     fill();
@@ -147,11 +151,60 @@ static void registers(void)
     printf("wipe: the vector registers of this machine are those of mask %02x\n", (unsigned)full[PARTS]);
 }
 
+#elif defined(__aarch64__)
+
+/* x0 to x17, then v0 to v31. */
+enum { PLAIN = 18, VECTORS = 32, LOWER = 8 };
+
+static uint64_t left[PLAIN + 2 * VECTORS];
+
+/* Fills every register, calls, and stores them. The lower halves of v8 to v15, which a call must leave, keep what they are filled with. */
+static void call_with_full_registers(void)
+{
+    __asm__ volatile(
+        "mov x19, sp\n"
+        "sub x20, x19, #256\n"
+        "and sp, x20, #-16\n"
+        ".irp i, 0,1,2,3,4,5,6,7,8,9,10,11,12,13,14,15,16,17,18,19,20,21,22,23,24,25,26,27,28,29,30,31\n"
+        "dup v\\i\\().2d, x19\n"
+        ".endr\n"
+        ".irp r, 0,1,2,3,4,5,6,7,8,9,10,11,12,13,14,15,16,17\n"
+        "mov x\\r, x19\n"
+        ".endr\n"
+        "bl kes_wipe\n"
+        "mov x20, %[left]\n"
+        ".irp r, 0,1,2,3,4,5,6,7,8,9,10,11,12,13,14,15,16,17\n"
+        "str x\\r, [x20], #8\n"
+        ".endr\n"
+        ".irp i, 0,1,2,3,4,5,6,7,8,9,10,11,12,13,14,15,16,17,18,19,20,21,22,23,24,25,26,27,28,29,30,31\n"
+        "str q\\i, [x20], #16\n"
+        ".endr\n"
+        "mov sp, x19\n"
+        :
+        : [left] "r"(left)
+        : "x0", "x1", "x2", "x3", "x4", "x5", "x6", "x7", "x8", "x9", "x10", "x11", "x12", "x13", "x14", "x15", "x16", "x17", "x19", "x20", "x30",
+          "memory", "cc", "v0", "v1", "v2", "v3", "v4", "v5", "v6", "v7", "v8", "v9", "v10", "v11", "v12", "v13", "v14", "v15", "v16", "v17",
+          "v18", "v19", "v20", "v21", "v22", "v23", "v24", "v25", "v26", "v27", "v28", "v29", "v30", "v31");
+}
+
+static void registers(void)
+{
+    size_t i, kept = 0;
+    call_with_full_registers();
+    for (i = LOWER; i < 2 * LOWER; i++) {
+        kept += left[PLAIN + 2 * i] != 0;
+        left[PLAIN + 2 * i] = 0;
+    }
+    expect(kept == LOWER, "the lower halves of v8 to v15 are as they were");
+    expect(zero((const uint8_t *)left, PLAIN * 8), "x0 to x17 are zero");
+    expect(zero((const uint8_t *)(left + PLAIN), sizeof left - PLAIN * 8), "the vector registers are zero but for those halves");
+}
+
 #else
 
 static void registers(void)
 {
-    expect(0, "registers are cleared on x86-64 alone");
+    expect(0, "registers are cleared on x86-64 and 64-bit Arm alone");
 }
 
 #endif
