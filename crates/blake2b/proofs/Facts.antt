@@ -6,8 +6,8 @@ use Prim.Native.Nat.{ℕ, _/_, _%_, _<_}
 use native.Mathlib.Omega.{arith}
 use lib.ListN.{length, getD, List·getD-eq-default}
 use Rattle.fields.specs.Fields.{Bytes}
-use Rattle.blake2b.specs.Rfc7693.{byte, digest, hash}
-use Rattle.blake2b.proofs.Laws.{length-tab, getD-tab}
+use Rattle.rfc7693.specs.Rfc7693.{byte, digest, hash}
+use Rattle.rfc7693.proofs.Laws.{length-tab, getD-tab}
 use Rattle.blake2b.proofs.Whole.{le-or-lt}
 
 digest-length : (h : List ℕ) → length (digest h) ≡ 32

@@ -5,7 +5,7 @@ use Prim.Native.Nat.{ℕ, _≤_, _<_}
 use borrow.Author.Tests.{le-ltb, lt-ltb, eq-eqb, ne-eqb}
 use lib.ListN.{length}
 use Rattle.refusal.specs.declared.Refusal.the-variants.{Length, TooLong}
-use Rattle.blake2b.specs.Rfc7693.{hash}
+use Rattle.rfc7693.specs.Rfc7693.{hash}
 use Rattle.blake2b.specs.Calls.{limit, Outcome, refused, hashOutcome, Hashes}
 use Rattle.blake2b.specs.Running.{Feeds, Digests}
 use Rattle.blake2b.specs.declared.running.Hasher.{Hasher}

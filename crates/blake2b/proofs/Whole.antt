@@ -10,7 +10,7 @@ use native.Mathlib.Omega.{arith}
 use lib.Dec.{leb, lit<}
 use lib.ListN.{length, getD, set, replicate, length-append, length-set, List·getD-append, List·getD-eq-default}
 use lib.Seq.{ext-getD, getD-set-same, getD-set-other, getD-append-seam}
-use Rattle.blake2b.specs.Rfc7693.{F, tab, chain, block, digest, hash, before}
+use Rattle.rfc7693.specs.Rfc7693.{F, tab, chain, block, digest, hash, before}
 use Rattle.fields.specs.Tests.{pick}
 use Rattle.refusal.specs.declared.Refusal.the-variants.{TooLong}
 use Rattle.blake2b.specs.declared.Answer.the-variants.{Done, Refused}
@@ -18,7 +18,8 @@ use Rattle.blake2b.specs.Calls.{limit}
 use Rattle.blake2b.specs.Running.{rest, stateAt, after, pushed, pushes, finished, fed, fedAfter, Feeds}
 use Rattle.blake2b.specs.declared.running.Hasher.{Hasher}
 use Rattle.blake2b.specs.declared.running.Fed.{Fed}
-use Rattle.blake2b.proofs.Laws.{getD-tab, length-tab, tab-ext, block-same, block-rest, chain-more}
+use Rattle.rfc7693.proofs.Laws.{getD-tab, length-tab, tab-ext, block-same, chain-more}
+use Rattle.blake2b.proofs.Padding.{block-rest}
 use Rattle.blake2b.proofs.Pushes.{pushed-room, pushed-full}
 
 le-or-lt′ : (l i : ℕ) (t : Bool) → leb l i ≡ t → (l ≤ i) ⊎ (i < l)

@@ -8,7 +8,7 @@ use Rattle.fields.specs.Tests.{pick}
 use Rattle.refusal.specs.Numbers.{numberOf}
 use Rattle.refusal.specs.declared.Refusal.{Refusal}
 use Rattle.refusal.specs.declared.Refusal.the-variants.{Length, TooLong}
-use Rattle.blake2b.specs.Rfc7693.{hash}
+use Rattle.rfc7693.specs.Rfc7693.{hash}
 use Rattle.blake2b.specs.declared.Answer.{Answer}
 use Rattle.blake2b.specs.declared.Answer.the-variants.{Done, Refused}
 

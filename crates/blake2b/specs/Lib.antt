@@ -1,3 +1,2 @@
-pub mod Rfc7693
 pub mod Running
 pub mod Calls

@@ -8,7 +8,7 @@ use lib.ListN.{length, getD, set, replicate}
 use lib.Seq.{sets}
 use Rattle.fields.specs.Tests.{pick}
 use Rattle.refusal.specs.declared.Refusal.the-variants.{TooLong}
-use Rattle.blake2b.specs.Rfc7693.{F, tab, block, chain, before, digest, hash}
+use Rattle.rfc7693.specs.Rfc7693.{F, tab, block, chain, before, digest, hash}
 use Rattle.blake2b.specs.Calls.{limit}
 use Rattle.blake2b.specs.declared.running.Hasher.{Hasher}
 use Rattle.blake2b.specs.declared.running.Fed.{Fed}

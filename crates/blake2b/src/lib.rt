@@ -1,16 +1,13 @@
 // BLAKE2b of RFC 7693, with no key and a digest of 32 bytes, of at most 4,096 bytes.
-mod compression;
 mod message;
-mod mixing;
 mod running;
-mod words;
 
-pub use compression::compress;
 pub use message::hash;
 pub use message::hash_32;
 pub use message::hash_32_32;
 pub use message::hash_byte_32;
 use refusal::Refusal;
+pub use rfc7693::compress;
 pub use running::Fed;
 pub use running::Hasher;
 

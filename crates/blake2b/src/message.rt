@@ -4,15 +4,15 @@ ghost use mathlib.Core.Bool.{false};
 ghost use mathlib.Core.List.{_++_, _∷_};
 ghost use Prim.Native.Nat.{_+_, _*_, _≤_};
 ghost use lib.ListN.{length};
-ghost use Rattle.blake2b.specs.Rfc7693 as spec;
+ghost use Rattle.rfc7693.specs.Rfc7693 as spec;
 ghost use Rattle.blake2b.specs.Running.{rest};
 ghost use Rattle.blake2b.specs.Calls.{Hashes, limit};
 use crate::Answer;
 use crate::LIMIT;
-use crate::compression::compress;
-use crate::words::emit;
-use crate::words::words;
 use refusal::Refusal;
+use rfc7693::compress;
+use rfc7693::words::emit;
+use rfc7693::words::words;
 
 // The state before the first block.
 pub(crate) fn first() -> [u64; 8]

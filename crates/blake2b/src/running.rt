@@ -7,11 +7,11 @@ ghost use Rattle.blake2b.specs.Calls.{limit};
 ghost use Rattle.blake2b.specs.Running.{Digests, Feeds, after, flushed, pushes, storedAll};
 use crate::Answer;
 use crate::LIMIT;
-use crate::compression::compress;
 use crate::message::first;
-use crate::words::emit;
-use crate::words::words;
 use refusal::Refusal;
+use rfc7693::compress;
+use rfc7693::words::emit;
+use rfc7693::words::words;
 
 // The state, the bytes that have not gone into it, how many they are, and how many bytes came in all.
 pub struct Hasher {

@@ -5,7 +5,7 @@ use mathlib.Core.Bool.{true}
 use Prim.Native.Nat.{ℕ}
 use lib.Bits.{bitXor}
 use lib.ListN.{getD, set, replicate}
-use Rattle.blake2b.specs.Rfc7693.{rotr, word, byte, IV, SIGMA, add3, add2, turn, G, columns, diagonals, chosen, round, rounds, xorAt, counted, start, folded, F, tab, block, first, chain, before, digest, hash}
+use Rattle.rfc7693.specs.Rfc7693.{rotr, word, byte, IV, SIGMA, add3, add2, turn, G, columns, diagonals, chosen, round, rounds, xorAt, counted, start, folded, F, tab, block, first, chain, before, digest, hash}
 
 -- Appendix A: BLAKE2b-512 of "abc", whose first state has nn = 64, is one call of F
 pub appendix-a : F (set IV 0 (bitXor (getD IV 0 0) 0x0101_0040)) (block (0x61 ∷ 0x62 ∷ 0x63 ∷ []) 0) 3 true ≡

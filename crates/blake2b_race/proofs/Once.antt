@@ -9,7 +9,7 @@ use lib.ListN.{length}
 use Rattle.fields.specs.Tests.{pick}
 use Rattle.refusal.specs.declared.Refusal.{Refusal}
 use Rattle.refusal.specs.declared.Refusal.the-variants.{TooLong}
-use Rattle.blake2b.specs.Rfc7693.{hash}
+use Rattle.rfc7693.specs.Rfc7693.{hash}
 use Rattle.blake2b.specs.Calls.{limit}
 use Rattle.blake2b.specs.Running.{after, fedAfter, Digests}
 use Rattle.blake2b.specs.declared.Answer.the-variants.{Done, Refused}

@@ -5,7 +5,7 @@ use mathlib.Core.List.{List, _++_}
 use lib.Dec.{leb}
 use lib.ListN.{length}
 use Rattle.fields.specs.Tests.{pick}
-use Rattle.blake2b.specs.Rfc7693.{hash}
+use Rattle.rfc7693.specs.Rfc7693.{hash}
 use Rattle.blake2b.specs.Calls.{limit}
 
 -- the digest of a message that is not too long, else what stood there

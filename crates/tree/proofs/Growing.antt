@@ -8,7 +8,7 @@ use lib.ListN.{length, take, drop, replicate, drop-of-length-le}
 use borrow.Author.Tests.{lt-ltb, le-ltb}
 use Rattle.fields.specs.Fields.{put}
 use Rattle.fields.proofs.Laws.{put-two, drop-back}
-use Rattle.blake2b.specs.Rfc7693.{hash}
+use Rattle.rfc7693.specs.Rfc7693.{hash}
 use Rattle.ed25519.specs.Ed25519.{publicKey}
 use Rattle.tree.specs.Seeds.{left, right, secretOf}
 use Rattle.tree.specs.Tree.{subtreeHash, level, treeSize, zeros, levelsOver, treeAt}

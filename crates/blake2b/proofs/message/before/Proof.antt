@@ -1,5 +1,5 @@
 use native.Mathlib.Omega.{arith}
-use Rattle.blake2b.specs.Rfc7693.{before}
+use Rattle.rfc7693.specs.Rfc7693.{before}
 use borrow.Author.Needs.{needs}
 use Rattle.blake2b.proofs.message.before.Statement.{statement}
 use Rattle.blake2b.proofs.message.before.Tie as tie

@@ -1,7 +1,7 @@
-use Rattle.blake2b.specs.Rfc7693.{chain}
+use Rattle.rfc7693.specs.Rfc7693.{chain}
 use borrow.Author.Needs.{needs}
-use Rattle.blake2b.specs.Rfc7693 as spec
-use Rattle.blake2b.proofs.Laws as laws
+use Rattle.rfc7693.specs.Rfc7693 as spec
+use Rattle.rfc7693.proofs.Laws as laws
 use mathlib.Core.Path.{_≡_}
 use Prim.Native.Nat.{_-_, _≤_}
 use native.Mathlib.Omega.{arith}

@@ -1,7 +1,7 @@
 use borrow.Author.Needs.{needs}
 use native.Mathlib.Omega.{arith}
-use Rattle.blake2b.specs.Rfc7693.{before, hash}
-use Rattle.blake2b.proofs.Laws.{block-rest}
+use Rattle.rfc7693.specs.Rfc7693.{before, hash}
+use Rattle.blake2b.proofs.Padding.{block-rest}
 use Rattle.blake2b.proofs.message.digest.Statement.{statement}
 use Rattle.blake2b.proofs.message.digest.Tie as tie
 
@@ -25,7 +25,7 @@ returns c =
     let c3 = c2 .before .before in
     let c4 = c3 .before in
     let c5 = c4 .before in
-    rw (c .emit .ensures, c1 .compress .ensures .0, c2 .words .ensures, c3 .padded .ensures, c4 .chain .ensures, c5 .before2 .ensures, block-rest)
+    rw (c .emit .ensures, c1 .compress .ensures .0, c2 .words .ensures .0, c3 .padded .ensures, c4 .chain .ensures, c5 .before2 .ensures, block-rest)
 
 pub digest-spec : {M : Type 1} → statement M
 digest-spec =

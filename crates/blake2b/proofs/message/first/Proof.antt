@@ -1,5 +1,5 @@
 use mathlib.Core.Path.{refl}
-use Rattle.blake2b.specs.Rfc7693.{first, IV}
+use Rattle.rfc7693.specs.Rfc7693.{first, IV}
 use Rattle.blake2b.proofs.message.first.Statement.{statement}
 use Rattle.blake2b.proofs.message.first.Tie as tie
 

@@ -3,7 +3,7 @@ use mathlib.Core.List.{_++_, append-nil}
 use lib.ListN.{length, replicate}
 use Rattle.fields.proofs.Laws.{put-two}
 use borrow.Author.Needs.{needs}
-use Rattle.blake2b.specs.Rfc7693.{hash}
+use Rattle.rfc7693.specs.Rfc7693.{hash}
 use Rattle.blake2b.proofs.message.hash_32_32.Statement.{statement}
 use Rattle.blake2b.proofs.message.hash_32_32.Tie as tie
 

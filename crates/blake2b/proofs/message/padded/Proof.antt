@@ -1,7 +1,7 @@
 use mathlib.Core.Path.{_∙_}
 use borrow.Author.Needs.{needs}
 use native.Mathlib.Omega.{arith}
-use Rattle.blake2b.proofs.Laws.{padded-is}
+use Rattle.blake2b.proofs.Padding.{padded-is}
 use Rattle.blake2b.proofs.message.padded.Statement.{statement}
 use Rattle.blake2b.proofs.message.padded.Tie as tie
 

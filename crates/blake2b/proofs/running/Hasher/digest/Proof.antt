@@ -10,7 +10,7 @@ unfolding finished
 returns c =
     let s = c .before .before .before .before .before .before .before .before .args .t1 in
     let e : c .emit .result ≡ finished s =
-    rw (c .emit .ensures, c .before .compress .ensures .0, c .before .before .before .before .words .ensures) in
+    rw (c .emit .ensures, c .before .compress .ensures .0, c .before .before .before .before .words .ensures .0) in
     record { answers = e; ends = λ m h. e ∙ ends s m h }
 
 pub digest-spec : {M : Type 1} → statement M

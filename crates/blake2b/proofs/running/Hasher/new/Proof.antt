@@ -1,5 +1,5 @@
 use borrow.Author.Needs.{needs}
-use Rattle.blake2b.specs.Rfc7693.{chain, before, tab}
+use Rattle.rfc7693.specs.Rfc7693.{chain, before, tab}
 use Rattle.blake2b.specs.Running.{rest}
 use Rattle.blake2b.proofs.running.Hasher.new.Statement.{statement}
 use Rattle.blake2b.proofs.running.Hasher.new.Tie as tie
