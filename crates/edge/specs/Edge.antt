@@ -3,8 +3,8 @@ use Prim.Native.Nat.{ℕ, _+_, _*_}
 use mathlib.Core.Path.{_≡_}
 use mathlib.Core.List.{List}
 use Rattle.blake2b.specs.Calls as blake2b
-use Rattle.key.specs.Answers.{Told, grownTold, answerNumber, verdictNumber}
-use Rattle.key.specs.Calls.{makeOutcome, keyOutcome, moveOutcome, signOutcome, verifyOutcome}
+use Rattle.rules.specs.Answers.{Told, grownTold, answerNumber, verdictNumber}
+use Rattle.rules.specs.Calls.{makeOutcome, keyOutcome, moveOutcome, signOutcome, verifyOutcome}
 
 -- make and move answer number + 2^32 * count
 abbrev pub word : Told → ℕ

@@ -2,7 +2,7 @@
 use Prim.Native.Nat.{ℕ}
 use mathlib.Core.Path.{_≡_}
 use mathlib.Core.List.{List}
-use Rattle.key.specs.Answers.{answerNumber, verdictNumber}
+use Rattle.rules.specs.Answers.{answerNumber, verdictNumber}
 use Rattle.fair.specs.Calls.{makeOutcome, moveOutcome, signOutcome, verifyOutcome}
 
 pub record EdgeFairMakes (n : ℕ) (a ss d k : List ℕ) (number : ℕ) (a′ ss′ d′ k′ : List ℕ) : Type 0 where

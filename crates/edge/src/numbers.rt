@@ -1,8 +1,8 @@
 // Each answer and verdict as its number.
 ghost use mathlib.Core.Path.{_≡_};
-ghost use Rattle.key.specs.Answers.{answerNumber, verdictNumber};
-use key::Answer;
-use key::Verdict;
+ghost use Rattle.rules.specs.Answers.{answerNumber, verdictNumber};
+use rules::Answer;
+use rules::Verdict;
 
 pub(crate) fn answered(answer: Answer) -> u32
     ensures { λ r. ⌜ r ≡ answerNumber answer ⌝ }

@@ -7,10 +7,10 @@ use native.Mathlib.Omega.{arith}
 use lib.ListN.{getD, replicate}
 use Rattle.fields.specs.Numbers.{twoIn}
 use Rattle.refusal.specs.declared.Refusal.the-variants.{SeedOrKey, Table, Length, PastEnd, TooLong, Entries}
-use Rattle.key.specs.declared.Answer.{Answer}
-use Rattle.key.specs.declared.Answer.the-variants as answer
-use Rattle.key.specs.declared.Verdict.{Verdict}
-use Rattle.key.specs.declared.Verdict.the-variants as verdict
+use Rattle.rules.specs.declared.Answer.{Answer}
+use Rattle.rules.specs.declared.Answer.the-variants as answer
+use Rattle.rules.specs.declared.Verdict.{Verdict}
+use Rattle.rules.specs.declared.Verdict.the-variants as verdict
 use Rattle.fair.specs.Entries.{entrySignature}
 use Rattle.fair.specs.Cache.{header, headerBytes, headerIn, wellFormed, headerOf, cleared, movedBody}
 use Rattle.fair.specs.Calls.{Makes, makeOutcome, Moves, moveUnder, moveOutcome, Signs, signUnder, signOutcome, Verifies, verdictOf, verifyOutcome}

@@ -14,10 +14,10 @@ use Rattle.fields.proofs.Laws.{length-part, bytes-append, bytes-part}
 use Rattle.fields.proofs.Rows.{rows-length, rows-part}
 use Rattle.blake2b.specs.Calls.{limit}
 use Rattle.ed25519.specs.Ed25519.{publicKey, signature, accepts, publicKey-length, publicKey-bytes, signature-length}
-use Rattle.key.specs.declared.Answer.the-variants as answer
-use Rattle.key.specs.declared.Verdict.the-variants as verdict
-use Rattle.key.specs.Runs.{Last, none, at, stepOf}
-use Rattle.key.specs.Demand3.{Bytes32, Message, AcceptsOwn}
+use Rattle.rules.specs.declared.Answer.the-variants as answer
+use Rattle.rules.specs.declared.Verdict.the-variants as verdict
+use Rattle.rules.specs.Runs.{Last, none, at, stepOf}
+use Rattle.rules.specs.Demand3.{Bytes32, Message, AcceptsOwn}
 use Rattle.fair.specs.Entries.{vouched, entrySize, entry, seedIn, entries, signatureSize, entrySignature, fairVerdict}
 use Rattle.fair.specs.Cache.{most, cacheSize, header, headerBytes, bodyIn, entryIn, headerOf, movedBody}
 use Rattle.fair.specs.Calls.{MakeOutcome, made, makeOutcome, MoveOutcome, moveOutcome, SignOutcome, signUnder, signOutcome, VerifyOutcome, verdictOf, verifyOutcome}

@@ -13,9 +13,9 @@ use Rattle.fields.proofs.Digits.{two-back}
 use Rattle.fields.proofs.Laws.{part-front}
 use Rattle.refusal.specs.declared.Refusal.{Refusal}
 use Rattle.refusal.specs.declared.Refusal.the-variants.{NotLater, PastEnd}
-use Rattle.key.specs.declared.Answer.the-variants as answer
-use Rattle.key.specs.Runs.{Last, none, at}
-use Rattle.key.proofs.Machine.{follows}
+use Rattle.rules.specs.declared.Answer.the-variants as answer
+use Rattle.rules.specs.Runs.{Last, none, at}
+use Rattle.rules.proofs.Machine.{follows}
 use Rattle.fair.specs.Entries.{entrySize}
 use Rattle.fair.specs.Cache.{most, header, headerBytes, headerIn, bodyIn, entryIn, headerOf, cleared, movedBody}
 use Rattle.fair.specs.Calls.{MoveOutcome, notMoved, moved, moveUnder, moveOutcome}

@@ -8,11 +8,11 @@ use lib.ListN.{length}
 use Rattle.fields.specs.Tests.{pick}
 use Rattle.blake2b.specs.Calls.{limit}
 use Rattle.refusal.specs.declared.Refusal.the-variants.{Table}
-use Rattle.key.specs.Answers.{answerNumber, verdictNumber}
-use Rattle.key.specs.Listed.{Among, here, there}
-use Rattle.key.specs.declared.Answer.{Answer}
-use Rattle.key.specs.declared.Verdict.{Verdict}
-use Rattle.key.proofs.Once.{either}
+use Rattle.rules.specs.Answers.{answerNumber, verdictNumber}
+use Rattle.rules.specs.Listed.{Among, here, there}
+use Rattle.rules.specs.declared.Answer.{Answer}
+use Rattle.rules.specs.declared.Verdict.{Verdict}
+use Rattle.rules.proofs.Once.{either}
 use Rattle.fair.specs.Entries.{signatureSize, fairVerdict}
 use Rattle.fair.specs.Cache.{outside, cacheSize, headerIn, wellFormed, headerOf}
 use Rattle.fair.specs.Calls.{Makes, MakeOutcome, makeOutcome}

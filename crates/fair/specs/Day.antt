@@ -7,11 +7,11 @@ use lib.ListN.{length}
 use Rattle.fields.specs.Fields.{Bytes}
 use Rattle.blake2b.specs.Calls.{limit}
 use Rattle.ed25519.specs.Ed25519.{publicKey, signature}
-use Rattle.key.specs.declared.Answer.{Answer}
-use Rattle.key.specs.declared.Answer.the-variants as answer
-use Rattle.key.specs.declared.Verdict.the-variants as verdict
-use Rattle.key.specs.Runs.{after, ends, Last, none, at, stepOf}
-use Rattle.key.specs.Demand3.{Bytes32, Message, AcceptsOwn}
+use Rattle.rules.specs.declared.Answer.{Answer}
+use Rattle.rules.specs.declared.Answer.the-variants as answer
+use Rattle.rules.specs.declared.Verdict.the-variants as verdict
+use Rattle.rules.specs.Runs.{after, ends, Last, none, at, stepOf}
+use Rattle.rules.specs.Demand3.{Bytes32, Message, AcceptsOwn}
 use Rattle.fair.specs.Entries.{vouched, entrySize, seedIn, signatureSize}
 use Rattle.fair.specs.Cache.{most, cacheSize, header, headerBytes, bodyIn, entryIn, cleared}
 use Rattle.fair.specs.Calls.{MakeOutcome, makeOutcome, MoveOutcome, moveOutcome, SignOutcome, signOutcome, VerifyOutcome, verifyOutcome}

@@ -3,8 +3,8 @@ use mathlib.Core.List.{List, _++_}
 use Prim.Native.Nat.{ℕ, _+_, _*_}
 use Rattle.fields.specs.Fields.{part}
 use Rattle.fields.specs.Rows.{rows}
-use Rattle.key.specs.declared.Answer.{Answer}
-use Rattle.key.specs.declared.Answer.the-variants as answer
+use Rattle.rules.specs.declared.Answer.{Answer}
+use Rattle.rules.specs.declared.Answer.the-variants as answer
 use Rattle.ed25519.specs.Ed25519.{publicKey, signature}
 use Rattle.fair.specs.Entries.{vouched, seedIn}
 use Rattle.fair.specs.declared.header.Found.{Found}

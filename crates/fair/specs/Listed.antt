@@ -2,8 +2,8 @@
 use mathlib.Core.List.{List, [], _∷_}
 use Prim.Native.Nat.{ℕ}
 use Rattle.refusal.specs.declared.Refusal.the-variants.{SeedOrKey, Table, Length, NotLater, PastEnd, TooLong, Entries}
-use Rattle.key.specs.declared.Verdict.{Verdict}
-use Rattle.key.specs.declared.Verdict.the-variants.{Accepted, Rejected, Refused}
+use Rattle.rules.specs.declared.Verdict.{Verdict}
+use Rattle.rules.specs.declared.Verdict.the-variants.{Accepted, Rejected, Refused}
 use Rattle.fair.specs.Cache.{headerIn}
 use Rattle.fair.specs.Calls.{MakeOutcome, notMade, made, MoveOutcome, notMoved, moved, SignOutcome, notSigned, signed}
 

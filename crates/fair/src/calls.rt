@@ -13,9 +13,9 @@ use crate::layout::SIGNATURE_SIZE;
 use crate::layout::cache_size;
 use crate::layout::outside;
 use blake2b::LIMIT;
-use key::Answer;
-use key::Verdict;
 use refusal::Refusal;
+use rules::Answer;
+use rules::Verdict;
 
 // Makes a cache of n entries at step 0 from a master seed and n lent seeds, and writes out the master's public key. All seeds become zeros.
 pub fn make(n: u64, master: &mut [u8], seeds: &mut [u8], cache: &mut [u8], key: &mut [u8]) -> Answer

@@ -8,8 +8,8 @@ ghost use Rattle.fair.specs.Inside.{answerOf};
 use crate::layout::HEADER_SIZE;
 use crate::layout::cache_size;
 use crate::layout::outside;
-use key::Answer;
 use refusal::Refusal;
+use rules::Answer;
 
 pub struct Header {
     pub entries: usize,

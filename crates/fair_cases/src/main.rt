@@ -7,9 +7,9 @@ use cases::digest;
 use cases::end_line;
 use cases::show_field;
 use cases::show_number;
-use key::Answer;
-use key::Verdict;
 use libc::STDOUT_FILENO;
+use rules::Answer;
+use rules::Verdict;
 
 // A cache of 257 entries would fit. The contract gives the length alone, so that no goal spells the bytes out.
 fn room() -> [u8; 32900]

@@ -14,23 +14,23 @@ use Rattle.blake2b.specs.Calls.{limit}
 use Rattle.refusal.specs.declared.Refusal.{Refusal}
 use Rattle.refusal.specs.declared.Refusal.the-variants.{Height, SeedOrKey, Length, NotLater, PastEnd, TooLong}
 use Rattle.tree.specs.Tree.{zeros, rootIn}
-use Rattle.key.specs.Part.{partSignature, partVerdict}
-use Rattle.key.specs.Table.{headerSize, steps, tableSize, signatureSize, header, atStep, headerBytes, bodyIn, headerOf}
-use Rattle.key.specs.Answers.{grownOf, answerOf}
-use Rattle.key.specs.Calls.{tooHigh, makeWork, Makes, MakeOutcome, notMade, made, makeOutcome}
-use Rattle.key.specs.Calls.{Reads, KeyOutcome, notRead, keyRead, keyUnder, keyOutcome}
-use Rattle.key.specs.Calls.{moveWork, Moves, MoveOutcome, notMoved, moved, moveUnder, moveOutcome}
-use Rattle.key.specs.Calls.{Signs, SignOutcome, notSigned, signed, signUnder, signOutcome}
-use Rattle.key.specs.Calls.{Verifies, verdictOf, verifyOutcome}
-use Rattle.key.specs.declared.header.Header.{Header}
-use Rattle.key.specs.declared.header.Found.{Found}
-use Rattle.key.specs.declared.header.Found.the-variants as found
-use Rattle.key.specs.declared.Grown.{Grown}
-use Rattle.key.specs.declared.Grown.the-variants as grown
-use Rattle.key.specs.declared.Answer.{Answer}
-use Rattle.key.specs.declared.Answer.the-variants as answer
-use Rattle.key.specs.declared.Verdict.{Verdict}
-use Rattle.key.specs.declared.Verdict.the-variants as verdict
+use Rattle.rules.specs.Part.{partSignature, partVerdict}
+use Rattle.rules.specs.Table.{headerSize, steps, tableSize, signatureSize, header, atStep, headerBytes, bodyIn, headerOf}
+use Rattle.rules.specs.Answers.{grownOf, answerOf}
+use Rattle.rules.specs.Calls.{tooHigh, makeWork, Makes, MakeOutcome, notMade, made, makeOutcome}
+use Rattle.rules.specs.Calls.{Reads, KeyOutcome, notRead, keyRead, keyUnder, keyOutcome}
+use Rattle.rules.specs.Calls.{moveWork, Moves, MoveOutcome, notMoved, moved, moveUnder, moveOutcome}
+use Rattle.rules.specs.Calls.{Signs, SignOutcome, notSigned, signed, signUnder, signOutcome}
+use Rattle.rules.specs.Calls.{Verifies, verdictOf, verifyOutcome}
+use Rattle.rules.specs.declared.Header.{Header}
+use Rattle.rules.specs.declared.Found.{Found}
+use Rattle.rules.specs.declared.Found.the-variants as found
+use Rattle.rules.specs.declared.Grown.{Grown}
+use Rattle.rules.specs.declared.Grown.the-variants as grown
+use Rattle.rules.specs.declared.Answer.{Answer}
+use Rattle.rules.specs.declared.Answer.the-variants as answer
+use Rattle.rules.specs.declared.Verdict.{Verdict}
+use Rattle.rules.specs.declared.Verdict.the-variants as verdict
 
 -- a table d whose tail behind the header was lent and came back as ys
 abbrev pub relaid : List ℕ → List ℕ → List ℕ

@@ -6,14 +6,14 @@ ghost use lib.ListN.{length, drop};
 ghost use Rattle.tree.specs.Seeds.{left};
 ghost use Rattle.tree.specs.Tree.{subtreeHash, treeAt, withoutSecret};
 ghost use Rattle.tree.specs.Sum.{sumSignature};
-ghost use Rattle.key.specs.Part.{partSize, topIn, nextAt, chain, seam, partSignature, partVerdict};
-ghost use Rattle.key.specs.Table.{maxHeight, steps, signatureSize};
-ghost use Rattle.key.specs.Calls.{makeWork, moveWork};
-use crate::header::Header;
+ghost use Rattle.rules.specs.Part.{partSize, topIn, nextAt, chain, seam, partSignature, partVerdict};
+ghost use Rattle.rules.specs.Table.{maxHeight, steps, signatureSize};
+ghost use Rattle.rules.specs.Calls.{makeWork, moveWork};
 use crate::layout::next_at;
 use crate::layout::seam_size;
 use crate::layout::sum_size;
 use crate::layout::tree_size;
+use rules::Header;
 
 // The stored seed, n parent steps on.
 fn advance(seed: [u8; 32], n: usize) -> [u8; 32]

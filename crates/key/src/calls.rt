@@ -1,14 +1,11 @@
 // The five calls. Each checks in document 01's order, and writes nothing before all its checks have passed.
-ghost use Rattle.key.specs.Calls.{Makes, Reads, Moves, Signs, Verifies};
-use crate::Answer;
-use crate::Grown;
-use crate::Verdict;
+ghost use Rattle.rules.specs.Calls.{Makes, Reads, Moves, Signs, Verifies};
 use crate::body::accepted;
 use crate::body::make_body;
 use crate::body::move_body;
 use crate::body::sign_body;
-use crate::header::Found;
-use crate::header::Header;
+use crate::header::answer_of;
+use crate::header::grown_of;
 use crate::header::put_header;
 use crate::header::read_header;
 use crate::layout::HEADER_SIZE;
@@ -18,6 +15,11 @@ use crate::layout::table_size;
 use crate::layout::too_high;
 use blake2b::LIMIT;
 use refusal::Refusal;
+use rules::Answer;
+use rules::Found;
+use rules::Grown;
+use rules::Header;
+use rules::Verdict;
 
 // Makes a key of these heights from seed, in table. The lent seed becomes zeros.
 pub fn make(h1: u64, h2: u64, seed: &mut [u8], table: &mut [u8]) -> Grown
@@ -48,7 +50,7 @@ pub fn read_key(table: &[u8], out: &mut [u8]) -> Answer
 {
     let found = read_header(table);
     let Found::Good(header) = found else {
-        return found.answer();
+        return answer_of(found);
     };
     if out.len() != 32 {
         return Answer::Refused(Refusal::Length);
@@ -64,7 +66,7 @@ pub fn move_to(table: &mut [u8], step: u64) -> Grown
 {
     let found = read_header(table);
     let Found::Good(header) = found else {
-        return found.grown();
+        return grown_of(found);
     };
     let step = step as usize;
     let end = steps(header.h1, header.h2);
@@ -89,7 +91,7 @@ pub fn sign(table: &[u8], message: &[u8], out: &mut [u8]) -> Answer
 {
     let found = read_header(table);
     let Found::Good(header) = found else {
-        return found.answer();
+        return answer_of(found);
     };
     if LIMIT < message.len() {
         return Answer::Refused(Refusal::TooLong);

@@ -4,8 +4,8 @@ use mathlib.Core.List.{List}
 use mathlib.Core.Bool.{true, false}
 use Prim.Native.Nat.{ℕ, _+_, _≤_, _<_}
 use borrow.Author.Tests.{lt-ltb, le-ltb, eq-eqb, ne-eqb}
-use Rattle.key.specs.Calls.{verifyOutcome}
-use Rattle.key.specs.declared.Verdict.{Verdict}
+use Rattle.rules.specs.Calls.{verifyOutcome}
+use Rattle.rules.specs.declared.Verdict.{Verdict}
 use Rattle.ledger.specs.declared.Header.{Header}
 use Rattle.ledger.specs.declared.Record.{Record}
 use Rattle.ledger.specs.declared.Books.{Books}

@@ -12,7 +12,7 @@ use Rattle.text.specs.Numerals.{numberIn, digitsUpTo}
 use Rattle.text.proofs.Back.{number-back, digits-back}
 use Rattle.text.proofs.Reading.{picked}
 use Rattle.text.specs.declared.Number.the-variants.{Value}
-use Rattle.key.specs.Table.{steps, signatureSize}
+use Rattle.rules.specs.Table.{steps, signatureSize}
 use Rattle.ledger.specs.declared.Header.{Header}
 use Rattle.ledger.specs.declared.Record.{Record}
 use Rattle.ledger.specs.declared.Entry.{Entry}

@@ -15,7 +15,7 @@ use Rattle.text.proofs.Reading.{picked, digits-within, within}
 use Rattle.text.specs.declared.Number.{Number}
 use Rattle.text.specs.declared.Number.the-variants.{Value, Bad}
 use Rattle.lines.specs.Lines.{Line, whole, long, unended}
-use Rattle.key.specs.Table.{steps, signatureSize}
+use Rattle.rules.specs.Table.{steps, signatureSize}
 use Rattle.ledger.specs.declared.Header.{Header}
 use Rattle.ledger.specs.declared.Record.{Record}
 use Rattle.ledger.specs.declared.Books.{Books}

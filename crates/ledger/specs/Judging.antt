@@ -8,9 +8,9 @@ use lib.Dec.{ltb, eqb}
 use Rattle.fields.specs.Tests.{pick}
 use Rattle.text.specs.Fields.{fields}
 use Rattle.lines.specs.Lines.{Line, whole, long, unended}
-use Rattle.key.specs.Calls.{verifyOutcome}
-use Rattle.key.specs.declared.Verdict.{Verdict}
-use Rattle.key.specs.declared.Verdict.the-variants.{Accepted, Rejected, Refused}
+use Rattle.rules.specs.Calls.{verifyOutcome}
+use Rattle.rules.specs.declared.Verdict.{Verdict}
+use Rattle.rules.specs.declared.Verdict.the-variants.{Accepted, Rejected, Refused}
 use Rattle.ledger.specs.Records.{Found, malformed, signed, recordIn, message, InRange}
 use Rattle.ledger.specs.declared.Header.{Header}
 use Rattle.ledger.specs.declared.Record.{Record}

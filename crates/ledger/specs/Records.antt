@@ -10,7 +10,7 @@ use Rattle.text.specs.Hex.{isHexOf, bytesOf}
 use Rattle.text.specs.Digits.{decimal, padded}
 use Rattle.text.specs.declared.Number.{Number}
 use Rattle.text.specs.declared.Number.the-variants.{Bad}
-use Rattle.key.specs.Table.{steps, signatureSize}
+use Rattle.rules.specs.Table.{steps, signatureSize}
 use Rattle.ledger.specs.declared.Header.{Header}
 use Rattle.ledger.specs.declared.Record.{Record}
 use Rattle.ledger.specs.declared.Entry.{Entry}

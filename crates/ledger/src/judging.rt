@@ -2,7 +2,7 @@
 ghost use mathlib.Core.Path.{_≡_};
 ghost use lib.ListN.{length};
 ghost use Rattle.text.specs.Fields.{fields};
-ghost use Rattle.key.specs.Table.{signatureSize};
+ghost use Rattle.rules.specs.Table.{signatureSize};
 ghost use Rattle.ledger.specs.FirstLine.{Fits};
 ghost use Rattle.ledger.specs.Records.{recordIn, InRange};
 ghost use Rattle.ledger.specs.Judging.{caseOf, passed, added, after, Sound, Adds};

@@ -4,7 +4,7 @@ ghost use Prim.Native.Nat.{_-_, _<_};
 ghost use lib.ListN.{length};
 ghost use Rattle.fields.specs.Tests.{same};
 ghost use Rattle.text.specs.Fields.{fields};
-ghost use Rattle.key.specs.Table.{steps, signatureSize};
+ghost use Rattle.rules.specs.Table.{steps, signatureSize};
 ghost use Rattle.ledger.specs.FirstLine.{kes, wrong, headWith, headIn, noHeader, headed, Fits};
 ghost use Rattle.ledger.specs.Records.{cardIn, numbersIn, recordIn, Reads};
 ghost use Rattle.ledger.specs.Splitting.{TwoFields, FourFields, FiveFields};

@@ -2,7 +2,7 @@ use mathlib.Core.Path.{_≡_, sym, ap, _∙_}
 use borrow.Author.Needs.{needs}
 use Prim.Native.Nat.{ℕ, _<_}
 use native.Mathlib.Omega.{arith}
-use Rattle.key.proofs.Small.{move-small}
+use Rattle.rules.proofs.Small.{move-small}
 use Rattle.edge.proofs.Words.{done-word, refused-word}
 use Rattle.edge.proofs.kes_move.Statement.{statement}
 use Rattle.edge.proofs.kes_move.Tie as tie

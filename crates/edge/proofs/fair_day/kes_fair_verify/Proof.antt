@@ -1,6 +1,6 @@
 use mathlib.Core.Path.{ap, _∙_}
 use borrow.Author.Needs.{needs}
-use Rattle.key.specs.Answers.{verdictNumber}
+use Rattle.rules.specs.Answers.{verdictNumber}
 use Rattle.edge.proofs.fair_day.kes_fair_verify.Statement.{statement}
 use Rattle.edge.proofs.fair_day.kes_fair_verify.Tie as tie
 

@@ -4,7 +4,7 @@ use native.Mathlib.Omega.{arith}
 use lib.Seq.{length-take-le, length-front}
 use borrow.Author.Needs.{needs}
 use Rattle.fields.proofs.Laws.{length-tail}
-use Rattle.key.proofs.Steps.{wide-pos, inner-lt, outer-lt, inner-less, outer-less}
+use Rattle.rules.proofs.Steps.{wide-pos, inner-lt, outer-lt, inner-less, outer-less}
 use Rattle.key.proofs.Bodies.{within-body, within-count, across-body, across-count, room}
 use Rattle.key.proofs.body.move_body.Statement.{statement}
 use Rattle.key.proofs.body.move_body.Tie as tie

@@ -2,7 +2,7 @@ use mathlib.Core.Path.{refl}
 use native.Mathlib.Omega.{arith}
 use borrow.Author.Needs.{needs}
 use Rattle.fields.proofs.Laws.{length-part, length-tail}
-use Rattle.key.proofs.Steps.{wide-pos, inner-lt}
+use Rattle.rules.proofs.Steps.{wide-pos, inner-lt}
 use Rattle.key.proofs.Signing.{product-signed}
 use Rattle.key.proofs.body.sign_body.Statement.{statement}
 use Rattle.key.proofs.body.sign_body.Tie as tie

@@ -5,9 +5,9 @@ use lib.ListN.{length}
 use borrow.Author.Needs.{needs}
 use Rattle.fields.proofs.Laws.{length-tail}
 use Rattle.tree.proofs.Growing.{zeros-are}
-use Rattle.key.specs.Calls.{tooHigh}
-use Rattle.key.specs.Table.{headerSize, tableSize}
-use Rattle.key.proofs.Headers.{not-high}
+use Rattle.rules.specs.Calls.{tooHigh}
+use Rattle.rules.specs.Table.{headerSize, tableSize}
+use Rattle.rules.proofs.Headers.{not-high}
 use Rattle.key.proofs.Outcomes.{make-high, make-seed, make-length, make-done}
 use Rattle.key.proofs.calls.make.Statement.{statement}
 use Rattle.key.proofs.calls.make.Tie as tie

@@ -2,8 +2,8 @@ use mathlib.Core.Path.{sym, _∙_}
 use native.Mathlib.Omega.{arith}
 use borrow.Author.Needs.{needs}
 use Rattle.fields.proofs.Laws.{length-tail}
-use Rattle.key.specs.Table.{headerSize, steps}
-use Rattle.key.proofs.Headers.{Whole, whole}
+use Rattle.rules.specs.Table.{headerSize, steps}
+use Rattle.rules.proofs.Headers.{Whole, whole}
 use Rattle.key.proofs.Outcomes.{move-refused, move-late, move-not-later, move-done}
 use Rattle.key.proofs.calls.move_to.Statement.{statement}
 use Rattle.key.proofs.calls.move_to.Tie as tie
@@ -17,7 +17,7 @@ returns c =
     let c₃ = c₁ .before .before in
     let c₆ = c₃ .before .before .before in
     let a = c₆ .args in
-    move-refused (a .table .now) (a .step) (c₃ .read-header .ensures) (c₁ .enum-told .given .1) (c .grown .ensures)
+    move-refused (a .table .now) (a .step) (c₃ .read-header .ensures) (c₁ .enum-told .given .1) (c .grown-of .ensures)
 
 steps-requires : tie.Need-steps-requires
 steps-requires c κs =

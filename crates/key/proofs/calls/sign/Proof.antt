@@ -2,8 +2,8 @@ use mathlib.Core.Path.{sym, _∙_}
 use native.Mathlib.Omega.{arith}
 use borrow.Author.Needs.{needs}
 use Rattle.fields.proofs.Laws.{length-tail}
-use Rattle.key.specs.Table.{headerSize}
-use Rattle.key.proofs.Headers.{Whole, whole}
+use Rattle.rules.specs.Table.{headerSize}
+use Rattle.rules.proofs.Headers.{Whole, whole}
 use Rattle.key.proofs.Outcomes.{sign-refused, sign-long, sign-length, sign-done}
 use Rattle.key.proofs.calls.sign.Statement.{statement}
 use Rattle.key.proofs.calls.sign.Tie as tie
@@ -17,7 +17,7 @@ returns c =
     let c₃ = c₁ .before .before in
     let c₇ = c₃ .before .before .before .before in
     let a = c₇ .args in
-    sign-refused (a .table .now) (a .message .now) (a .out .now) (c₃ .read-header .ensures) (c₁ .enum-told .given .1) (c .answer .ensures)
+    sign-refused (a .table .now) (a .message .now) (a .out .now) (c₃ .read-header .ensures) (c₁ .enum-told .given .1) (c .answer-of .ensures)
 
 returns-2 : tie.Need-returns-2
 returns-2 c =

@@ -4,18 +4,18 @@ use mathlib.Core.List.{List, [], _∷_, _++_}
 use Prim.Native.Nat.{ℕ, _+_, _≤_, _<_}
 use lib.ListN.{length}
 use lib.Pow.{pow-pos}
-use Rattle.key.specs.Part.{partRoot, partAt, partSignature}
-use Rattle.key.specs.Table.{maxHeight, steps, signatureSize, header, headerBytes, tableAt}
-use Rattle.key.specs.Calls.{MakeOutcome, KeyOutcome, keyOutcome, MoveOutcome, SignOutcome, signOutcome, VerifyOutcome, verifyOutcome}
-use Rattle.key.specs.declared.Verdict.the-variants as verdict
-use Rattle.key.specs.Runs.{lastAccepted, stepOf}
-use Rattle.key.specs.Knows.{knownTable, handedAt, Knowing}
-use Rattle.key.specs.Demand3.{Bytes32, Message, AcceptsOwn, Keeps, Demand3}
-use Rattle.key.proofs.Parts.{root-length}
-use Rattle.key.proofs.Bridge.{made-at, key-at, moved-at, sign-at, accepted-at}
-use Rattle.key.proofs.Straight.{Reached, run}
-use Rattle.key.proofs.Holding.{part-knowing}
-use Rattle.key.proofs.Vouching.{signature-length, part-accepted}
+use Rattle.rules.specs.Part.{partRoot, partAt, partSignature}
+use Rattle.rules.specs.Table.{maxHeight, steps, signatureSize, header, headerBytes, tableAt}
+use Rattle.rules.specs.Calls.{MakeOutcome, KeyOutcome, keyOutcome, MoveOutcome, SignOutcome, signOutcome, VerifyOutcome, verifyOutcome}
+use Rattle.rules.specs.declared.Verdict.the-variants as verdict
+use Rattle.rules.specs.Runs.{lastAccepted, stepOf}
+use Rattle.rules.specs.Knows.{knownTable, handedAt, Knowing}
+use Rattle.rules.specs.Demand3.{Bytes32, Message, AcceptsOwn, Keeps, Demand3}
+use Rattle.rules.proofs.Parts.{root-length}
+use Rattle.rules.proofs.Bridge.{made-at, key-at, moved-at, sign-at, accepted-at}
+use Rattle.rules.proofs.Straight.{Reached, run}
+use Rattle.rules.proofs.Holding.{part-knowing}
+use Rattle.rules.proofs.Vouching.{signature-length, part-accepted}
 
 table-knows : (s : List ℕ) (h1 h2 t : ℕ) → t < steps h1 h2 → tableAt s h1 h2 t ≡ knownTable h1 h2 t (handedAt s h1 (h2 ∷ []) t)
 unfolding tableAt knownTable

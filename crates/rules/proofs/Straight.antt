@@ -7,11 +7,11 @@ use native.Mathlib.Omega.{arith}
 use lib.ListN.{length}
 use lib.Pow.{pow-pos}
 use Rattle.tree.proofs.Levels.{side}
-use Rattle.key.specs.Table.{maxHeight, steps, tableAt}
-use Rattle.key.specs.Calls.{MoveOutcome, moveOutcome}
-use Rattle.key.specs.Runs.{Last, none, accepted, moveLeaves, moveTells, movedBy, lastAccepted, straightTo, stepOf}
-use Rattle.key.proofs.Machine.{follows}
-use Rattle.key.proofs.Bridge.{late-at, not-later-at, moved-at}
+use Rattle.rules.specs.Table.{maxHeight, steps, tableAt}
+use Rattle.rules.specs.Calls.{MoveOutcome, moveOutcome}
+use Rattle.rules.specs.Runs.{Last, none, accepted, moveLeaves, moveTells, movedBy, lastAccepted, straightTo, stepOf}
+use Rattle.rules.proofs.Machine.{follows}
+use Rattle.rules.proofs.Bridge.{late-at, not-later-at, moved-at}
 
 module _ (s : List ℕ) (h1 h2 : ℕ) (ls : length s ≡ 32) (l1 : h1 ≤ maxHeight) (l2 : h2 ≤ maxHeight) where
   abbrev first : List ℕ

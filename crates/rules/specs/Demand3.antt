@@ -7,15 +7,15 @@ use lib.ListN.{length}
 use Rattle.fields.specs.Fields.{Bytes}
 use Rattle.blake2b.specs.Calls.{limit}
 use Rattle.ed25519.specs.Ed25519.{publicKey, signature, accepts}
-use Rattle.key.specs.Part.{countPart}
-use Rattle.key.specs.Table.{maxHeight, steps, tableSize, signatureSize}
-use Rattle.key.specs.Calls.{MakeOutcome, makeOutcome, KeyOutcome, keyOutcome, MoveOutcome}
-use Rattle.key.specs.Calls.{moveOutcome, SignOutcome, signOutcome, VerifyOutcome, verifyOutcome}
-use Rattle.key.specs.declared.Grown.the-variants as grown
-use Rattle.key.specs.declared.Answer.the-variants as answer
-use Rattle.key.specs.declared.Verdict.the-variants as verdict
-use Rattle.key.specs.Runs.{Last, movedBy, lastAccepted, straightTo, stepOf}
-use Rattle.key.specs.Knows.{knownTable, handedAt, Knowing}
+use Rattle.rules.specs.Part.{countPart}
+use Rattle.rules.specs.Table.{maxHeight, steps, tableSize, signatureSize}
+use Rattle.rules.specs.Calls.{MakeOutcome, makeOutcome, KeyOutcome, keyOutcome, MoveOutcome}
+use Rattle.rules.specs.Calls.{moveOutcome, SignOutcome, signOutcome, VerifyOutcome, verifyOutcome}
+use Rattle.rules.specs.declared.Grown.the-variants as grown
+use Rattle.rules.specs.declared.Answer.the-variants as answer
+use Rattle.rules.specs.declared.Verdict.the-variants as verdict
+use Rattle.rules.specs.Runs.{Last, movedBy, lastAccepted, straightTo, stepOf}
+use Rattle.rules.specs.Knows.{knownTable, handedAt, Knowing}
 
 abbrev pub Bytes32 : List ℕ → Type 0
 Bytes32 x = (length x ≡ 32) × Bytes x

@@ -1,9 +1,9 @@
 -- A list of calls of any kind, each on the bytes that the one before it left; and a list of asked moves.
 use mathlib.Core.List.{List, [], _∷_}
 use Prim.Native.Nat.{ℕ}
-use Rattle.key.specs.Calls.{MoveOutcome, moveOutcome}
-use Rattle.key.specs.declared.Grown.{Grown}
-use Rattle.key.specs.declared.Grown.the-variants as grown
+use Rattle.rules.specs.Calls.{MoveOutcome, moveOutcome}
+use Rattle.rules.specs.declared.Grown.{Grown}
+use Rattle.rules.specs.declared.Grown.the-variants as grown
 
 -- the bytes in the end, where `leaves d o` is what the call o leaves of d
 unfoldable pub after : {Call : Type 0} → (List ℕ → Call → List ℕ) → List ℕ → List Call → List ℕ

@@ -10,7 +10,7 @@ use lib.Dec.{eqb}
 use lib.Pow.{pow-pos}
 use borrow.Author.Tests.{eq-eqb}
 use Rattle.tree.proofs.Laws.{count-bound, count-new-bound}
-use Rattle.key.specs.Part.{total, outer, inner, countNewPart, countPart}
+use Rattle.rules.specs.Part.{total, outer, inner, countNewPart, countPart}
 
 -- a new part: every tree of it is new
 unfoldable pub newBound : ℕ → List ℕ → ℕ

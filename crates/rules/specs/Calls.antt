@@ -11,17 +11,17 @@ use Rattle.blake2b.specs.Calls.{limit}
 use Rattle.refusal.specs.declared.Refusal.{Refusal}
 use Rattle.refusal.specs.declared.Refusal.the-variants.{Height, SeedOrKey, Length, NotLater, PastEnd, TooLong}
 use Rattle.tree.specs.Tree.{zeros, rootIn}
-use Rattle.key.specs.Part.{partAt, movedPart, countNewPart, countPart, partSignature, partVerdict}
-use Rattle.key.specs.Table.{maxHeight, steps, tableSize, signatureSize, header, atStep, headerBytes, bodyIn, headerOf}
-use Rattle.key.specs.declared.header.Header.{Header}
-use Rattle.key.specs.declared.header.Found.{Found}
-use Rattle.key.specs.declared.header.Found.the-variants as found
-use Rattle.key.specs.declared.Grown.{Grown}
-use Rattle.key.specs.declared.Grown.the-variants as grown
-use Rattle.key.specs.declared.Answer.{Answer}
-use Rattle.key.specs.declared.Answer.the-variants as answer
-use Rattle.key.specs.declared.Verdict.{Verdict}
-use Rattle.key.specs.declared.Verdict.the-variants as verdict
+use Rattle.rules.specs.Part.{partAt, movedPart, countNewPart, countPart, partSignature, partVerdict}
+use Rattle.rules.specs.Table.{maxHeight, steps, tableSize, signatureSize, header, atStep, headerBytes, bodyIn, headerOf}
+use Rattle.rules.specs.declared.Header.{Header}
+use Rattle.rules.specs.declared.Found.{Found}
+use Rattle.rules.specs.declared.Found.the-variants as found
+use Rattle.rules.specs.declared.Grown.{Grown}
+use Rattle.rules.specs.declared.Grown.the-variants as grown
+use Rattle.rules.specs.declared.Answer.{Answer}
+use Rattle.rules.specs.declared.Answer.the-variants as answer
+use Rattle.rules.specs.declared.Verdict.{Verdict}
+use Rattle.rules.specs.declared.Verdict.the-variants as verdict
 
 abbrev pub tooHigh : ℕ → ℕ → Bool
 tooHigh h1 h2 = ltb maxHeight h1 || ltb maxHeight h2

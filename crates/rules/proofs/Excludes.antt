@@ -8,9 +8,9 @@ use Rattle.fields.specs.Numbers.{fourIn}
 use Rattle.refusal.specs.declared.Refusal.the-variants.{Height, SeedOrKey, Table, Length, PastEnd, TooLong}
 use Rattle.tree.specs.Tree.{zeros}
 use Rattle.tree.specs.Move.{entered, movedTree, countMove, countNewAt}
-use Rattle.key.specs.Part.{seam, movedPart, countNewPart, countPart, sumsIn, partSignature}
-use Rattle.key.specs.Table.{header, headerBytes, headerIn, wellFormed, headerOf}
-use Rattle.key.specs.Calls.{
+use Rattle.rules.specs.Part.{seam, movedPart, countNewPart, countPart, sumsIn, partSignature}
+use Rattle.rules.specs.Table.{header, headerBytes, headerIn, wellFormed, headerOf}
+use Rattle.rules.specs.Calls.{
   moveWork,
   Makes,
   makeOutcome,
@@ -27,12 +27,12 @@ use Rattle.key.specs.Calls.{
   verdictOf,
   verifyOutcome,
 }
-use Rattle.key.specs.declared.Grown.{Grown}
-use Rattle.key.specs.declared.Grown.the-variants as grown
-use Rattle.key.specs.declared.Answer.{Answer}
-use Rattle.key.specs.declared.Answer.the-variants as answer
-use Rattle.key.specs.declared.Verdict.{Verdict}
-use Rattle.key.specs.declared.Verdict.the-variants as verdict
+use Rattle.rules.specs.declared.Grown.{Grown}
+use Rattle.rules.specs.declared.Grown.the-variants as grown
+use Rattle.rules.specs.declared.Answer.{Answer}
+use Rattle.rules.specs.declared.Answer.the-variants as answer
+use Rattle.rules.specs.declared.Verdict.{Verdict}
+use Rattle.rules.specs.declared.Verdict.the-variants as verdict
 
 -- a table of heights 1 and 0 at step t, every byte of its body x
 unfoldable pub plain : ℕ → ℕ → List ℕ

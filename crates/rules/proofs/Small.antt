@@ -12,14 +12,14 @@ use Rattle.fields.specs.Tests.{pick}
 use Rattle.refusal.specs.declared.Refusal.the-variants.{Height, SeedOrKey, Length, NotLater, PastEnd}
 use Rattle.tree.specs.Move.{countNewAt}
 use Rattle.tree.proofs.Laws.{count-new-bound}
-use Rattle.key.specs.Part.{outer, inner, countNewPart, countPart}
-use Rattle.key.specs.Table.{steps, tableSize, bodyIn, headerOf}
-use Rattle.key.specs.Calls.{tooHigh, makeWork, made, notMade, makeOutcome, moveWork, moved, notMoved, moveUnder, moveOutcome}
-use Rattle.key.specs.declared.header.Found.{Found}
-use Rattle.key.specs.declared.header.Found.the-variants as found
-use Rattle.key.specs.declared.Grown.the-variants.{Done, Refused}
-use Rattle.key.proofs.Headers.{not-high, whole}
-use Rattle.key.proofs.Bounds.{count-across}
+use Rattle.rules.specs.Part.{outer, inner, countNewPart, countPart}
+use Rattle.rules.specs.Table.{steps, tableSize, bodyIn, headerOf}
+use Rattle.rules.specs.Calls.{tooHigh, makeWork, made, notMade, makeOutcome, moveWork, moved, notMoved, moveUnder, moveOutcome}
+use Rattle.rules.specs.declared.Found.{Found}
+use Rattle.rules.specs.declared.Found.the-variants as found
+use Rattle.rules.specs.declared.Grown.the-variants.{Done, Refused}
+use Rattle.rules.proofs.Headers.{not-high, whole}
+use Rattle.rules.proofs.Bounds.{count-across}
 
 not-done : {why : Refusal} {n : ℕ} → Refused why ≡ Done n → ⊥
 not-done e = let z : _≡_ {A = ℕ} 0 1 = cc in omega arith

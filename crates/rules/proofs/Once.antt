@@ -8,19 +8,19 @@ use lib.ListN.{length}
 use Rattle.fields.specs.Tests.{pick}
 use Rattle.blake2b.specs.Calls.{limit}
 use Rattle.refusal.specs.declared.Refusal.the-variants.{Table}
-use Rattle.key.specs.Part.{partVerdict}
-use Rattle.key.specs.Table.{steps, tableSize, signatureSize, headerIn, wellFormed, headerOf}
-use Rattle.key.specs.Answers.{grownTold, answerNumber, verdictNumber}
-use Rattle.key.specs.Calls.{tooHigh, Makes, MakeOutcome, makeOutcome}
-use Rattle.key.specs.Calls.{Reads, KeyOutcome, keyUnder, keyOutcome}
-use Rattle.key.specs.Calls.{Moves, MoveOutcome, moveUnder, moveOutcome}
-use Rattle.key.specs.Calls.{Signs, SignOutcome, signUnder, signOutcome}
-use Rattle.key.specs.Calls.{Verifies, verdictOf, verifyOutcome}
-use Rattle.key.specs.Listed.{Among, here, there, makeListed, keyListed, moveListed, signListed, verifyListed}
-use Rattle.key.specs.declared.header.Found.the-variants.{Good, Refused}
-use Rattle.key.specs.declared.Grown.{Grown}
-use Rattle.key.specs.declared.Answer.{Answer}
-use Rattle.key.specs.declared.Verdict.{Verdict}
+use Rattle.rules.specs.Part.{partVerdict}
+use Rattle.rules.specs.Table.{steps, tableSize, signatureSize, headerIn, wellFormed, headerOf}
+use Rattle.rules.specs.Answers.{grownTold, answerNumber, verdictNumber}
+use Rattle.rules.specs.Calls.{tooHigh, Makes, MakeOutcome, makeOutcome}
+use Rattle.rules.specs.Calls.{Reads, KeyOutcome, keyUnder, keyOutcome}
+use Rattle.rules.specs.Calls.{Moves, MoveOutcome, moveUnder, moveOutcome}
+use Rattle.rules.specs.Calls.{Signs, SignOutcome, signUnder, signOutcome}
+use Rattle.rules.specs.Calls.{Verifies, verdictOf, verifyOutcome}
+use Rattle.rules.specs.Listed.{Among, here, there, makeListed, keyListed, moveListed, signListed, verifyListed}
+use Rattle.rules.specs.declared.Found.the-variants.{Good, Refused}
+use Rattle.rules.specs.declared.Grown.{Grown}
+use Rattle.rules.specs.declared.Answer.{Answer}
+use Rattle.rules.specs.declared.Verdict.{Verdict}
 
 pub make-once : (h1 h2 : ℕ) (s d : List ℕ) {a b : Grown} {s₁ s₂ d₁ d₂ : List ℕ} → Makes h1 h2 s d a s₁ d₁ → Makes h1 h2 s d b s₂ d₂
     → (a ≡ b) × (s₁ ≡ s₂) × (d₁ ≡ d₂)

@@ -13,16 +13,16 @@ use Rattle.fields.proofs.Digits.{four-back}
 use Rattle.refusal.specs.declared.Refusal.the-variants.{NotLater, PastEnd}
 use Rattle.blake2b.specs.Calls.{limit}
 use Rattle.tree.specs.Tree.{zeros}
-use Rattle.key.specs.Part.{partSize, partRoot, partAt, countNewPart, countPart, partSignature, partVerdict}
-use Rattle.key.specs.Table.{maxHeight, steps, tableSize, signatureSize, header, headerBytes, headerIn, bodyIn, headerOf, tableAt}
-use Rattle.key.specs.declared.header.Found.the-variants.{Good}
-use Rattle.key.specs.declared.Grown.the-variants as grown
-use Rattle.key.specs.declared.Answer.the-variants as answer
-use Rattle.key.specs.declared.Verdict.the-variants as verdict
-use Rattle.key.specs.Calls.{Work, makeWork, moveWork, MakeOutcome, makeOutcome, KeyOutcome, keyUnder, keyOutcome, MoveOutcome}
-use Rattle.key.specs.Calls.{notMoved, moveUnder, moveOutcome, SignOutcome, signUnder, signOutcome, VerifyOutcome, verdictOf, verifyOutcome}
-use Rattle.key.proofs.Headers.{Formed, good}
-use Rattle.key.proofs.Parts.{part-moves, part-size, part-root}
+use Rattle.rules.specs.Part.{partSize, partRoot, partAt, countNewPart, countPart, partSignature, partVerdict}
+use Rattle.rules.specs.Table.{maxHeight, steps, tableSize, signatureSize, header, headerBytes, headerIn, bodyIn, headerOf, tableAt}
+use Rattle.rules.specs.declared.Found.the-variants.{Good}
+use Rattle.rules.specs.declared.Grown.the-variants as grown
+use Rattle.rules.specs.declared.Answer.the-variants as answer
+use Rattle.rules.specs.declared.Verdict.the-variants as verdict
+use Rattle.rules.specs.Calls.{Work, makeWork, moveWork, MakeOutcome, makeOutcome, KeyOutcome, keyUnder, keyOutcome, MoveOutcome}
+use Rattle.rules.specs.Calls.{notMoved, moveUnder, moveOutcome, SignOutcome, signUnder, signOutcome, VerifyOutcome, verdictOf, verifyOutcome}
+use Rattle.rules.proofs.Headers.{Formed, good}
+use Rattle.rules.proofs.Parts.{part-moves, part-size, part-root}
 
 header-back : (h1 h2 t : ℕ) (x : List ℕ) → t < 2 ^ 32 → headerIn (headerBytes (header h1 h2 t) ++ x) ≡ header h1 h2 t
 unfolding headerIn headerBytes fourIn

@@ -1,0 +1,16 @@
+pub mod Sums
+pub mod Headers
+pub mod Steps
+pub mod Once
+pub mod Bounds
+pub mod Counts
+pub mod Small
+pub mod Excludes
+pub mod Machine
+pub mod Parts
+pub mod Bridge
+pub mod Straight
+pub mod Holding
+pub mod Vouching
+pub mod Keeping
+pub mod Sizes
