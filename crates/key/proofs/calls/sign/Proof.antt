@@ -61,7 +61,7 @@ sign-body-requires c κs =
     let c₁₂ = c₆ .before .before .before .before .before .before in
     let w = formed c₆ in
     let e = length-tail (c₁₂ .args .table .now) headerSize in
-    (w .low1, w .low2, omega arith, c₂ .if2 .left ∙ c₃ .signature-size .ensures)
+    (w .low1, w .low2, w .soon, omega arith, c₂ .if2 .left ∙ c₃ .signature-size .ensures)
 
 returns-4 : tie.Need-returns-4
 returns-4 c =

@@ -2,9 +2,9 @@ use mathlib.Core.Path.{sym, _∙_}
 use native.Mathlib.Omega.{arith}
 use lib.Seq.{length-take-le}
 use borrow.Author.Needs.{needs}
-use Rattle.key.proofs.Bodies.{covers, exact, sealed}
-use Rattle.key.proofs.body.seal.Statement.{statement}
-use Rattle.key.proofs.body.seal.Tie as tie
+use Rattle.part.proofs.Bodies.{covers, exact, sealed}
+use Rattle.part.proofs.seam.seal.Statement.{statement}
+use Rattle.part.proofs.seam.seal.Tie as tie
 
 slice-aggregate-sum-sign-2 : tie.Need-slice-aggregate-sum-sign-2
 slice-aggregate-sum-sign-2 c =

@@ -1,0 +1,16 @@
+// A part of a product key: one tree, or a tree whose leaves vouch for a part below it; in bytes that a caller lends.
+mod accepting;
+mod growing;
+mod heights;
+pub mod layout;
+mod moving;
+mod seam;
+mod signing;
+
+pub use accepting::accepted;
+pub use growing::count_new_part;
+pub use growing::grow_part;
+pub use heights::Heights;
+pub use heights::two;
+pub use moving::move_part;
+pub use signing::sign_part;
