@@ -9,10 +9,10 @@ use Rattle.text.specs.Numerals.{every, isDigit, valueFrom, digitsUpTo, noLeadin
 use Rattle.text.specs.Hex.{nibble, isHexDigit, isHexOf, bytesOf}
 use Rattle.text.specs.Digits.{digits, decimal}
 use Rattle.lines.specs.Lines.{ended, linesAfter, lastLine, linesOf}
-use Rattle.ledger.specs.FirstLine.{kes, headWith, headIn}
-use Rattle.ledger.specs.Records.{cardIn, numbersIn, recordIn}
-use Rattle.ledger.specs.Judging.{caseOf, judged, judgedFrom}
-use Rattle.ledger.specs.Printing.{verdictLine, totalLine, printed}
+use Rattle.records.specs.FirstLine.{kes, headWith, headIn}
+use Rattle.records.specs.Records.{cardIn, numbersIn, recordIn}
+use Rattle.records.specs.Judging.{caseOf, judged, judgedFrom}
+use Rattle.records.specs.Printing.{verdictLine, totalLine, printed}
 use Rattle.ledger.specs.Output.{headOf, reported, journalReport, journalOutput}
 
 -- `1111222233334444`

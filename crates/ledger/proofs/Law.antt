@@ -11,7 +11,7 @@ use borrow.Author.Tests.{eq-eqb, ne-eqb}
 use Rattle.lines.specs.Lines.{long, unended, linesAfter, linesOf}
 use Rattle.text.specs.Digits.{Puts}
 use Rattle.text.proofs.Writing.{puts-then}
-use Rattle.ledger.specs.declared.Header.{Header}
+use Rattle.records.specs.declared.Header.{Header}
 use Rattle.ledger.specs.declared.Phase.{Phase}
 use Rattle.ledger.specs.declared.Phase.the-variants.{First, Body, Over}
 use Rattle.ledger.specs.declared.Stream.{Stream}

@@ -1,11 +1,4 @@
-pub mod Fielded
-pub mod Heading
-pub mod Recording
-pub mod Ranges
-pub mod Cases
-pub mod Texts
 pub mod Taking
 pub mod Pieces
 pub mod Law
-pub mod Message
 pub mod Example

@@ -9,13 +9,13 @@ use lib.ListN.{length, take, drop}
 use Rattle.fields.specs.Tests.{pick}
 use Rattle.text.specs.Digits.{Puts}
 use Rattle.lines.specs.Lines.{Line, unended, linesAfter, lastLine}
-use Rattle.ledger.specs.FirstLine.{noHeader, Fits}
-use Rattle.ledger.specs.Judging.{judged, judgedFrom, Sound}
-use Rattle.ledger.specs.Printing.{wrongLine, totalLine, printed}
+use Rattle.records.specs.FirstLine.{noHeader, Fits}
+use Rattle.records.specs.Judging.{judged, judgedFrom, Sound}
+use Rattle.records.specs.Printing.{wrongLine, totalLine, printed}
 use Rattle.ledger.specs.Output.{reported, print}
-use Rattle.ledger.specs.declared.Header.{Header}
-use Rattle.ledger.specs.declared.Books.{Books}
-use Rattle.ledger.specs.declared.Judged.{Judged}
+use Rattle.records.specs.declared.Header.{Header}
+use Rattle.records.specs.declared.Books.{Books}
+use Rattle.records.specs.declared.Judged.{Judged}
 use Rattle.ledger.specs.declared.Phase.{Phase}
 use Rattle.ledger.specs.declared.Phase.the-variants.{First, Body, Over}
 use Rattle.ledger.specs.declared.Stream.{Stream}

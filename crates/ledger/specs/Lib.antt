@@ -1,7 +1,2 @@
-pub mod Splitting
-pub mod FirstLine
-pub mod Records
-pub mod Judging
-pub mod Printing
 pub mod Output
 pub mod Feeding

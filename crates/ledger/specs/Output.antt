@@ -3,10 +3,10 @@ use mathlib.Core.List.{List, [], _∷_}
 use Prim.Native.Nat.{ℕ}
 use Rattle.text.specs.Fields.{fields}
 use Rattle.lines.specs.Lines.{Line, whole, long, unended, linesOf}
-use Rattle.ledger.specs.FirstLine.{Head, right, wrong, headIn}
-use Rattle.ledger.specs.Judging.{start, judgedFrom}
-use Rattle.ledger.specs.Printing.{printed, wrongLine}
-use Rattle.ledger.specs.declared.Judged.{Judged}
+use Rattle.records.specs.FirstLine.{Head, right, wrong, headIn}
+use Rattle.records.specs.Judging.{start, judgedFrom}
+use Rattle.records.specs.Printing.{printed, wrongLine}
+use Rattle.records.specs.declared.Judged.{Judged}
 
 -- what an input is worth: a wrong line 1, or its later lines, judged
 pub data Report : Type 0 where

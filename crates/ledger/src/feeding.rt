@@ -4,24 +4,24 @@ ghost use Prim.Native.Nat.{_+_, _*_, _≤_, _<_};
 ghost use lib.ListN.{length};
 ghost use Rattle.text.specs.Digits.{Puts};
 ghost use Rattle.lines.specs.Lines.{whole, long};
-ghost use Rattle.ledger.specs.FirstLine.{Fits};
-ghost use Rattle.ledger.specs.Judging.{start, Sound, Adds};
+ghost use Rattle.records.specs.FirstLine.{Fits};
+ghost use Rattle.records.specs.Judging.{start, Sound, Adds};
 ghost use Rattle.ledger.specs.Feeding.{fresh, Kept, betweenLines, isOver, Writes, Reports, Ready, Feeds, Steps, endOf, lastOf};
-use crate::Answer;
-use crate::Books;
 use crate::Fed;
-use crate::Header;
-use crate::Judged;
 use crate::Phase;
 use crate::Stream;
-use crate::judging::after;
-use crate::judging::judge;
-use crate::printing::put_line;
-use crate::printing::put_total;
-use crate::printing::put_wrong;
-use crate::reading::no_header;
-use crate::reading::read_header;
 use lines::Taken;
+use records::Answer;
+use records::Books;
+use records::Header;
+use records::Judged;
+use records::after;
+use records::judge;
+use records::no_header;
+use records::put_line;
+use records::put_total;
+use records::put_wrong;
+use records::read_header;
 
 // A line of a piece was taken; the next one starts at index next.
 pub struct Step {

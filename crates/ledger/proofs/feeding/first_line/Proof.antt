@@ -2,9 +2,9 @@ use mathlib.Core.Path.{refl}
 use borrow.Author.Needs.{needs}
 use Rattle.lines.specs.Lines.{whole, long}
 use Rattle.text.specs.Fields.{fields}
-use Rattle.ledger.specs.FirstLine.{headIn}
+use Rattle.records.specs.FirstLine.{headIn}
 use Rattle.ledger.specs.Output.{headOf}
-use Rattle.ledger.proofs.Ranges.{head-fits}
+use Rattle.records.proofs.Ranges.{head-fits}
 use Rattle.ledger.proofs.Taking.{writes-like, writes-right, was-wrong, was-right}
 use Rattle.ledger.proofs.feeding.first_line.Statement.{statement}
 use Rattle.ledger.proofs.feeding.first_line.Tie as tie

@@ -1,0 +1,7 @@
+pub mod Fielded
+pub mod Heading
+pub mod Recording
+pub mod Ranges
+pub mod Cases
+pub mod Texts
+pub mod Message

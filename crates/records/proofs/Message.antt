@@ -1,0 +1,54 @@
+-- The signed message of a record that was read is its line's card, serial and amount, run together as they stand there.
+use mathlib.Core.Path.{_≡_}
+use mathlib.Core.List.{List, [], _∷_, _++_}
+use Prim.Native.Nat.{ℕ, _-_}
+use native.Mathlib.Omega.{arith}
+use lib.Dec.{eqb}
+use lib.ListN.{length}
+use borrow.Author.Tests.{eqb-true}
+use Rattle.text.specs.Digits.{padded}
+use Rattle.text.specs.Hex.{isHexOf, bytesOf}
+use Rattle.text.specs.Numerals.{numberIn, digitsUpTo}
+use Rattle.text.proofs.Back.{number-back, digits-back}
+use Rattle.text.proofs.Reading.{picked}
+use Rattle.text.specs.declared.Number.the-variants.{Value}
+use Rattle.rules.specs.Table.{steps, signatureSize}
+use Rattle.records.specs.declared.Header.{Header}
+use Rattle.records.specs.declared.Record.{Record}
+use Rattle.records.specs.declared.Entry.{Entry}
+use Rattle.records.specs.declared.Entry.the-variants.{WellFormed, IllFormed}
+use Rattle.records.specs.Records.{cardIn, numbersIn, malformed, signed, signedIn, recordIn, message}
+use Rattle.records.proofs.Ranges.{given-some, chosen, ill-not}
+
+malformed-not : {r : Record} {s : List ℕ} → malformed ≡ signed r s → ⊥
+malformed-not e = let z : _≡_ {A = ℕ} 0 1 = cc in omega arith
+
+entry-of : (h : Header) (e : Entry) (hex : List ℕ) {r : Record} {s : List ℕ} → signedIn h e hex ≡ signed r s → e ≡ WellFormed r
+entry-of h IllFormed hex p = absurd (malformed-not p)
+entry-of h (WellFormed q) hex {r} {s} p =
+    let c = chosen (isHexOf (signatureSize (h .h1) (h .h2)) hex) (signed q (bytesOf hex)) malformed malformed-not p in
+    cc
+
+card-back : (s : List ℕ) {c : ℕ} → cardIn s ≡ Value c → padded 16 c ≡ s
+unfolding cardIn
+card-back s {c} e =
+    let p = picked (eqb (length s) 16) (digitsUpTo 9999999999999999 s) e in
+    let n : length s ≡ 16 = eqb-true (length s) 16 (p .0) in
+    rw (← n) (digits-back 9999999999999999 s (p .1))
+
+numbers-message : (h : Header) (step card serial amount : List ℕ) {r : Record} → numbersIn h step card serial amount ≡ WellFormed r → message r ≡ card ++ (serial ++ amount)
+unfolding numbersIn message
+numbers-message h step card serial amount {r} e =
+    let t = given-some IllFormed (numberIn 0 (steps (h .h1) (h .h2) - 1) step) _ ill-not e in
+    let c = given-some IllFormed (cardIn card) _ ill-not (t .so) in
+    let n = given-some IllFormed (numberIn 1 4294967295 serial) _ ill-not (c .so) in
+    let a = given-some IllFormed (numberIn 1 2000000 amount) _ ill-not (n .so) in
+    let so = a .so in
+    let q : _≡_ {A = Record} (record { step = t .value; card = c .value; serial = n .value; amount = a .value }) r = cc in
+    rw (← q) (rw (card-back card (c .is), number-back 1 4294967295 serial (omega arith) (n .is), number-back 1 2000000 amount (omega arith) (a .is)))
+
+pub message-fields : (h : Header) (step card serial amount hex : List ℕ) {r : Record} {s : List ℕ}
+    → recordIn h (step ∷ card ∷ serial ∷ amount ∷ hex ∷ []) ≡ signed r s → message r ≡ card ++ (serial ++ amount)
+unfolding recordIn
+message-fields h step card serial amount hex p =
+    numbers-message h step card serial amount (entry-of h (numbersIn h step card serial amount) hex p)

@@ -1,0 +1,123 @@
+-- The ranges of what was read: a header's heights, and the numbers of a record.
+use mathlib.Core.Path.{_≡_, refl, subst}
+use mathlib.Core.List.{List, [], _∷_}
+use mathlib.Core.Bool.{Bool, true, false}
+use Prim.{Unit}
+use Prim.Native.Nat.{ℕ, _+_, _-_, _≤_}
+use native.Mathlib.Omega.{arith}
+use lib.Dec.{ltb, eqb}
+use lib.ListN.{length}
+use Rattle.fields.specs.Tests.{pick, same}
+use Rattle.text.specs.Fields.{fields}
+use Rattle.text.specs.Hex.{isHexOf, bytesOf}
+use Rattle.text.specs.Numerals.{numberIn, digitsUpTo, given}
+use Rattle.text.proofs.Reading.{picked, digits-within, within}
+use Rattle.text.specs.declared.Number.{Number}
+use Rattle.text.specs.declared.Number.the-variants.{Value, Bad}
+use Rattle.lines.specs.Lines.{Line, whole, long, unended}
+use Rattle.rules.specs.Table.{steps, signatureSize}
+use Rattle.records.specs.declared.Header.{Header}
+use Rattle.records.specs.declared.Record.{Record}
+use Rattle.records.specs.declared.Books.{Books}
+use Rattle.records.specs.declared.Entry.{Entry}
+use Rattle.records.specs.declared.Entry.the-variants.{WellFormed, IllFormed}
+use Rattle.records.specs.declared.Judged.{Judged}
+use Rattle.records.specs.FirstLine.{right, wrong, kes, headWith, headIn, Fits}
+use Rattle.records.specs.Records.{cardIn, numbersIn, Found, malformed, signed, signedIn, recordIn, InRange}
+use Rattle.records.specs.Judging.{accepts, caseOf, judged, Adds}
+
+-- a number was given
+pub record Given {A : Type 0} (n : Number) (f : ℕ → A) (x : A) : Type 0 where
+  pub value : ℕ
+  pub is : n ≡ Value value
+  pub so : f value ≡ x
+
+pub given-some : {A : Type 0} (other : A) (n : Number) (f : ℕ → A) {x : A} → (other ≡ x → ⊥) → given other n f ≡ x → Given n f x
+given-some other Bad f never e = absurd (never e)
+given-some other (Value v) f never e = record { value = v; is = refl; so = e }
+
+pub chosen : {A : Type 0} (t : Bool) (x y : A) {z : A} → (y ≡ z → ⊥) → pick t x y ≡ z → x ≡ z
+chosen true x y never e = e
+chosen false x y never e = absurd (never e)
+
+-- HEIGHTS
+wrong-not : {h : Header} → wrong ≡ right h → ⊥
+wrong-not e = let z : _≡_ {A = ℕ} 0 1 = cc in omega arith
+
+with-fits : (h1 h2 : ℕ) (key : List ℕ) {h : Header} → h1 ≤ 12 → h2 ≤ 12 → headWith h1 h2 key ≡ right h → Fits h
+unfolding headWith
+with-fits h1 h2 key {h} a b e =
+    let p = chosen (isHexOf 32 key) (right (record { h1 = h1; h2 = h2; key = bytesOf key })) wrong wrong-not e in
+    let q : _≡_ {A = Header} (record { h1 = h1; h2 = h2; key = bytesOf key }) h = cc in
+    subst Fits q (record { first = a; second = b })
+
+pub head-fits : (fs : List (List ℕ)) {h : Header} → headIn fs ≡ right h → Fits h
+unfolding headIn
+head-fits [] e = absurd (wrong-not e)
+head-fits (a ∷ []) e = absurd (wrong-not e)
+head-fits (word ∷ key ∷ []) e = with-fits 6 6 key (omega arith) (omega arith) (chosen (same word kes) (headWith 6 6 key) wrong wrong-not e)
+head-fits (a ∷ b ∷ c ∷ []) e = absurd (wrong-not e)
+head-fits (word ∷ a ∷ b ∷ key ∷ []) e =
+    let first = given-some wrong (numberIn 0 12 a) _ wrong-not (chosen (same word kes) _ wrong wrong-not e) in
+    let second = given-some wrong (numberIn 0 12 b) _ wrong-not (first .so) in
+    with-fits (first .value) (second .value) key (within 0 12 a (first .is) .1) (within 0 12 b (second .is) .1) (second .so)
+head-fits (a ∷ b ∷ c ∷ d ∷ f ∷ r) e = absurd (wrong-not e)
+
+-- RECORDS
+pub ill-not : {r : Record} → IllFormed ≡ WellFormed r → ⊥
+ill-not e = let z : _≡_ {A = ℕ} 0 1 = cc in omega arith
+
+numbers-range : (h : Header) (step card serial amount : List ℕ) {r : Record} → numbersIn h step card serial amount ≡ WellFormed r → InRange r
+unfolding numbersIn cardIn
+numbers-range h step card serial amount {r} e =
+    let t = given-some IllFormed (numberIn 0 (steps (h .h1) (h .h2) - 1) step) _ ill-not e in
+    let c = given-some IllFormed (cardIn card) _ ill-not (t .so) in
+    let n = given-some IllFormed (numberIn 1 4294967295 serial) _ ill-not (c .so) in
+    let a = given-some IllFormed (numberIn 1 2000000 amount) _ ill-not (n .so) in
+    let so = a .so in
+    let q : _≡_ {A = Record} (record { step = t .value; card = c .value; serial = n .value; amount = a .value }) r = cc in
+    subst InRange q
+    (record {
+      cards = digits-within 9999999999999999 card (picked (eqb (length card) 16) (digitsUpTo 9999999999999999 card) (c .is) .1);
+      serials = within 1 4294967295 serial (n .is);
+      amounts = within 1 2000000 amount (a .is);
+    })
+
+abbrev Ranged : Found → Type 0
+Ranged malformed = Unit {0}
+Ranged (signed r s) = InRange r
+
+pick-ranged : (t : Bool) (x : Found) → Ranged x → Ranged (pick t x malformed)
+pick-ranged true x i = i
+pick-ranged false x i = tt
+
+signed-ranged : (h : Header) (e : Entry) (s : List ℕ) → ((r : Record) → e ≡ WellFormed r → InRange r) → Ranged (signedIn h e s)
+signed-ranged h IllFormed s f = tt
+signed-ranged h (WellFormed r) s f = pick-ranged (isHexOf (signatureSize (h .h1) (h .h2)) s) (signed r (bytesOf s)) (f r refl)
+
+record-ranged : (h : Header) (fs : List (List ℕ)) → Ranged (recordIn h fs)
+unfolding recordIn
+record-ranged h [] = tt
+record-ranged h (a ∷ []) = tt
+record-ranged h (a ∷ b ∷ []) = tt
+record-ranged h (a ∷ b ∷ c ∷ []) = tt
+record-ranged h (a ∷ b ∷ c ∷ d ∷ []) = tt
+record-ranged h (a ∷ b ∷ c ∷ d ∷ s ∷ []) = signed-ranged h (numbersIn h a b c d) s (λ r e. numbers-range h a b c d e)
+record-ranged h (a ∷ b ∷ c ∷ d ∷ s ∷ e ∷ r) = tt
+
+-- JUDGED LINES
+pick-adds : (t : Bool) (x y : Judged) → Adds x → Adds y → Adds (pick t x y)
+pick-adds true x y a b = a
+pick-adds false x y a b = b
+
+case-adds : (h : Header) (b : Books) (found : Found) → Ranged found → Adds (caseOf h b found)
+unfolding caseOf
+case-adds h b malformed i = tt
+case-adds h b (signed r s) i =
+    pick-adds (ltb (r .step) (b .step)) _ _ tt (pick-adds (eqb (r .serial) (b .serial + 1)) _ _ (pick-adds (accepts h r s) _ _ i tt) tt)
+
+pub judged-adds : (h : Header) (b : Books) (l : Line) → Adds (judged h b l)
+unfolding judged
+judged-adds h b (whole l) = case-adds h b (recordIn h (fields l)) (record-ranged h (fields l))
+judged-adds h b long = tt
+judged-adds h b unended = tt

@@ -1,0 +1,49 @@
+-- The texts that are written: their lengths, and each as its parts one after the other.
+use mathlib.Core.Path.{_≡_}
+use mathlib.Core.List.{List, [], _∷_, _++_, append-assoc}
+use Prim.Native.Nat.{ℕ, _+_, _≤_}
+use native.Mathlib.Omega.{arith}
+use lib.ListN.{length, length-append}
+use Rattle.text.specs.Digits.{decimal, padded, Puts}
+use Rattle.text.proofs.Writing.{puts-then, decimal-length, padded-length}
+use Rattle.records.specs.declared.Record.{Record}
+use Rattle.records.specs.declared.Books.{Books}
+use Rattle.records.specs.declared.Judged.{Judged}
+use Rattle.records.specs.Records.{message}
+use Rattle.records.specs.Printing.{letterOf, verdictLine, totalLine}
+
+pub puts-message : (r : Record) {d d₁ d₂ d₃ : List ℕ} {a b e : ℕ} → 0 ≤ length d → Puts d 0 (padded 16 (r .card)) a d₁
+    → Puts d₁ a (decimal (r .serial)) b d₂ → Puts d₂ b (decimal (r .amount)) e d₃ → Puts d 0 (message r) e d₃
+unfolding message
+puts-message r h p q s =
+    rw append-assoc at (puts-then (padded 16 (r .card) ++ decimal (r .serial)) (decimal (r .amount)) h (puts-then (padded 16 (r .card)) (decimal (r .serial)) h p q) s)
+
+pub puts-line : (n : ℕ) (j : Judged) {d d₁ d₂ : List ℕ} {at a b x : ℕ} → at ≤ length d → x ≡ letterOf j → Puts d at (decimal n) a d₁
+    → Puts d₁ a (9 ∷ x ∷ 10 ∷ []) b d₂ → Puts d at (verdictLine n j) b d₂
+unfolding verdictLine
+puts-line n j h e p q = rw e at (puts-then (decimal n) (9 ∷ _ ∷ 10 ∷ []) h p q)
+
+pub puts-total : (b : Books) {d d₁ d₂ d₃ d₄ d₅ : List ℕ} {at i j k m n : ℕ} → at ≤ length d
+    → Puts d at (116 ∷ 111 ∷ 116 ∷ 97 ∷ 108 ∷ 9 ∷ []) i d₁ → Puts d₁ i (decimal (b .count)) j d₂ → Puts d₂ j (9 ∷ []) k d₃
+    → Puts d₃ k (decimal (b .cents)) m d₄ → Puts d₄ m (10 ∷ []) n d₅ → Puts d at (totalLine b) n d₅
+unfolding totalLine
+puts-total b h p q r s t =
+    let word : List ℕ = 116 ∷ 111 ∷ 116 ∷ 97 ∷ 108 ∷ 9 ∷ [] in
+    let pq = puts-then word (decimal (b .count)) h p q in
+    let pr = puts-then (word ++ decimal (b .count)) (9 ∷ []) h pq r in
+    let ps = puts-then ((word ++ decimal (b .count)) ++ (9 ∷ [])) (decimal (b .cents)) h pr s in
+    simp append-assoc at (puts-then (((word ++ decimal (b .count)) ++ (9 ∷ [])) ++ decimal (b .cents)) (10 ∷ []) h ps t)
+
+pub verdict-length : (n : ℕ) (j : Judged) → length (verdictLine n j) ≤ 23
+unfolding verdictLine
+verdict-length n j = rw length-append (omega (arith, decimal-length n))
+
+pub total-length : (b : Books) → length (totalLine b) ≤ 48
+unfolding totalLine
+total-length b =
+    simp length-append (omega (arith, decimal-length (b .count), decimal-length (b .cents)))
+
+pub message-length : (r : Record) → length (message r) ≤ 56
+unfolding message
+message-length r =
+    simp length-append (omega (arith, padded-length 16 (r .card), decimal-length (r .serial), decimal-length (r .amount)))

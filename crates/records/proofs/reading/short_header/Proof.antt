@@ -1,0 +1,32 @@
+use mathlib.Core.Path.{sym, ap, _∙_}
+use borrow.Author.Needs.{needs}
+use borrow.Author.Tests.{not-true, not-false}
+use Rattle.records.specs.FirstLine.{headed}
+use Rattle.records.proofs.Heading.{short-not, short-is}
+use Rattle.records.proofs.reading.short_header.Statement.{statement}
+use Rattle.records.proofs.reading.short_header.Tie as tie
+
+returns : tie.Need-returns
+returns c =
+    c .wrong .ensures ∙ sym (ap headed (short-not (c .before .before .before .before .before .pre .are) (sym (c .before .before .is-kes .ensures) ∙ not-true _ (c .before .if1 .taken))))
+
+returns-2 : tie.Need-returns-2
+returns-2 c =
+    c .head-with .ensures ∙ sym (ap headed (short-is (c .before .before .before .before .before .before .pre .are) (sym (c .before .before .before .is-kes .ensures) ∙ not-false _ (c .before .before .if1 .left))))
+
+pub short-header-spec : {M : Type 1} → statement M
+short-header-spec =
+    tie.close
+    (tie.spec
+    (λ c. search needs)
+    (λ c. search needs)
+    (λ c. search needs)
+    (λ c κs. search needs)
+    (λ c κs. search needs)
+    returns
+    (λ c. search needs)
+    (λ c. search needs)
+    (λ c. search needs)
+    (λ c. search needs)
+    (λ c κs. search needs)
+    returns-2)

@@ -1,0 +1,46 @@
+-- Line 1. Document 01, "The top-up journal": "`kes`, h1, h2 (0 to 12 each), verification key; or `kes`, verification key, which means heights 6 and 6".
+use mathlib.Core.List.{List, [], _∷_}
+use Prim.Native.Nat.{ℕ, _≤_}
+use lib.ListN.{replicate}
+use Rattle.fields.specs.Tests.{pick, same}
+use Rattle.text.specs.Numerals.{numberIn, given}
+use Rattle.text.specs.Hex.{isHexOf, bytesOf}
+use Rattle.records.specs.declared.Header.{Header}
+use Rattle.records.specs.declared.Headed.{Headed}
+use Rattle.records.specs.declared.Answer.the-variants.{Right, Wrong}
+
+-- a right line 1 and its header, or a wrong one
+pub data Head : Type 0 where
+  right : Header → Head
+  wrong : Head
+
+-- `kes`
+unfoldable pub kes : List ℕ
+kes = 107 ∷ 101 ∷ 115 ∷ []
+
+-- the header of these heights, whose key is written in hex
+unfoldable pub headWith : ℕ → ℕ → List ℕ → Head
+headWith h1 h2 key = pick (isHexOf 32 key) (right (record { h1 = h1; h2 = h2; key = bytesOf key })) wrong
+
+-- the header that the fields of line 1 say
+unfoldable pub headIn : List (List ℕ) → Head
+headIn [] = wrong
+headIn (a ∷ []) = wrong
+headIn (word ∷ key ∷ []) = pick (same word kes) (headWith 6 6 key) wrong
+headIn (a ∷ b ∷ c ∷ []) = wrong
+headIn (word ∷ a ∷ b ∷ key ∷ []) =
+    pick (same word kes) (given wrong (numberIn 0 12 a) (λ h1. given wrong (numberIn 0 12 b) (λ h2. headWith h1 h2 key))) wrong
+headIn (a ∷ b ∷ c ∷ d ∷ e ∷ r) = wrong
+
+-- the heights that every header has
+pub record Fits (h : Header) : Type 0 where
+  pub first : h .h1 ≤ 12
+  pub second : h .h2 ≤ 12
+
+-- the answer, and beside it the header, which is all zeros where line 1 is wrong
+unfoldable pub noHeader : Header
+noHeader = record { h1 = 0; h2 = 0; key = replicate 32 0 }
+
+unfoldable pub headed : Head → Headed
+headed (right h) = record { answer = Right; header = h }
+headed wrong = record { answer = Wrong; header = noHeader }

@@ -1,0 +1,81 @@
+-- The case of a line, given what came before. Document 01, "The top-up journal": "M malformed .., O step below the last good line's,
+-- S serial not one more than the last good line's (the first is 1), B signature not accepted, G good; the first that applies, in this order".
+use mathlib.Core.List.{List, [], _∷_}
+use mathlib.Core.Bool.{Bool, true, false}
+use Prim.{Unit}
+use Prim.Native.Nat.{ℕ, _+_, _*_, _≤_}
+use lib.Dec.{ltb, eqb}
+use Rattle.fields.specs.Tests.{pick}
+use Rattle.text.specs.Fields.{fields}
+use Rattle.lines.specs.Lines.{Line, whole, long, unended}
+use Rattle.rules.specs.Calls.{verifyOutcome}
+use Rattle.rules.specs.declared.Verdict.{Verdict}
+use Rattle.rules.specs.declared.Verdict.the-variants.{Accepted, Rejected, Refused}
+use Rattle.records.specs.Records.{Found, malformed, signed, recordIn, message, InRange}
+use Rattle.records.specs.declared.Header.{Header}
+use Rattle.records.specs.declared.Record.{Record}
+use Rattle.records.specs.declared.Books.{Books}
+use Rattle.records.specs.declared.Judged.{Judged}
+use Rattle.records.specs.declared.Judged.the-variants.{Malformed, StepBelow, OtherSerial, NotAccepted, Good}
+
+-- a verdict other than accepted is B
+abbrev pub isAccepted : Verdict → Bool
+isAccepted Accepted = true
+isAccepted Rejected = false
+isAccepted (Refused why) = false
+
+-- a record's signature is accepted under the header
+unfoldable pub accepts : Header → Record → List ℕ → Bool
+accepts h r signature = isAccepted (verifyOutcome (h .h1) (h .h2) (h .key) (r .step) (message r) signature .answer)
+
+-- M, O, S, then B and G, the first that applies
+unfoldable pub caseOf : Header → Books → Found → Judged
+caseOf h b malformed = Malformed
+caseOf h b (signed r signature) =
+    pick (ltb (r .step) (b .step)) (StepBelow r)
+    (pick (eqb (r .serial) (b .serial + 1))
+    (pick (accepts h r signature) (Good r) (NotAccepted r))
+    (OtherSerial r))
+
+-- THE CASE OF A LINE
+unfoldable pub judged : Header → Books → Line → Judged
+judged h b (whole l) = caseOf h b (recordIn h (fields l))
+judged h b long = Malformed
+judged h b unended = Malformed
+
+-- what the lines from 2 on start with, and what a line leaves: its number is one more, and a good line is the last good one
+abbrev pub start : Books
+start = record { number = 2; step = 0; serial = 0; count = 0; cents = 0 }
+
+abbrev pub passed : Books → Books
+passed b = record { number = b .number + 1; step = b .step; serial = b .serial; count = b .count; cents = b .cents }
+
+abbrev pub added : Books → Record → Books
+added b r = record { number = b .number + 1; step = r .step; serial = r .serial; count = b .count + 1; cents = b .cents + r .amount }
+
+abbrev pub after : Books → Judged → Books
+after b Malformed = passed b
+after b (StepBelow r) = passed b
+after b (OtherSerial r) = passed b
+after b (NotAccepted r) = passed b
+after b (Good r) = added b r
+
+-- THE JUDGED LINES, cases with their records
+unfoldable pub judgedFrom : Header → Books → List Line → List Judged
+judgedFrom h b [] = []
+judgedFrom h b (l ∷ ls) = judged h b l ∷ judgedFrom h (after b (judged h b l)) ls
+
+-- what always holds of the books of a run
+pub record Sound (b : Books) : Type 0 where
+  pub numbers : b .number ≤ 4294967295
+  pub serials : b .serial ≤ 4294967295
+  pub counts : b .count ≤ b .number
+  pub sums : b .cents ≤ b .count * 2000000
+
+-- what always holds of a judged line
+abbrev pub Adds : Judged → Type 0
+Adds (Good r) = InRange r
+Adds Malformed = Unit {0}
+Adds (StepBelow r) = Unit {0}
+Adds (OtherSerial r) = Unit {0}
+Adds (NotAccepted r) = Unit {0}

@@ -1,0 +1,5 @@
+pub mod Splitting
+pub mod FirstLine
+pub mod Records
+pub mod Judging
+pub mod Printing

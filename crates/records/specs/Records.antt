@@ -1,0 +1,74 @@
+-- The record of a later line. Document 01, "The top-up journal": "step, card (16 digits), serial (1 to 4,294,967,295), amount in cents (1 to 2,000,000), signature".
+use mathlib.Core.Path.{_≡_}
+use mathlib.Core.List.{List, [], _∷_, _++_}
+use Prim.Native.Nat.{ℕ, _-_, _≤_}
+use lib.Dec.{eqb}
+use lib.ListN.{length}
+use Rattle.fields.specs.Tests.{pick}
+use Rattle.text.specs.Numerals.{numberIn, digitsUpTo, given}
+use Rattle.text.specs.Hex.{isHexOf, bytesOf}
+use Rattle.text.specs.Digits.{decimal, padded}
+use Rattle.text.specs.declared.Number.{Number}
+use Rattle.text.specs.declared.Number.the-variants.{Bad}
+use Rattle.rules.specs.Table.{steps, signatureSize}
+use Rattle.records.specs.declared.Header.{Header}
+use Rattle.records.specs.declared.Record.{Record}
+use Rattle.records.specs.declared.Entry.{Entry}
+use Rattle.records.specs.declared.Entry.the-variants.{WellFormed, IllFormed}
+
+-- 16 digits, of which the first may be zeros
+unfoldable pub cardIn : List ℕ → Number
+cardIn s = pick (eqb (length s) 16) (digitsUpTo 9999999999999999 s) Bad
+
+-- the numbers of a record; a step at or past T is none
+unfoldable pub numbersIn : Header → List ℕ → List ℕ → List ℕ → List ℕ → Entry
+numbersIn h step card serial amount =
+    given IllFormed (numberIn 0 (steps (h .h1) (h .h2) - 1) step) (λ t.
+    given IllFormed (cardIn card) (λ c.
+    given IllFormed (numberIn 1 4294967295 serial) (λ n.
+    given IllFormed (numberIn 1 2000000 amount) (λ cents.
+    WellFormed (record { step = t; card = c; serial = n; amount = cents })))))
+
+-- a record and its signature, or a malformed line
+pub data Found : Type 0 where
+  malformed : Found
+  signed : Record → List ℕ → Found
+
+-- the signature is the hex of its exact length
+abbrev pub signedIn : Header → Entry → List ℕ → Found
+signedIn h IllFormed signature = malformed
+signedIn h (WellFormed r) signature = pick (isHexOf (signatureSize (h .h1) (h .h2)) signature) (signed r (bytesOf signature)) malformed
+
+-- the record that the fields of a line say
+unfoldable pub recordIn : Header → List (List ℕ) → Found
+recordIn h [] = malformed
+recordIn h (a ∷ []) = malformed
+recordIn h (a ∷ b ∷ []) = malformed
+recordIn h (a ∷ b ∷ c ∷ []) = malformed
+recordIn h (a ∷ b ∷ c ∷ d ∷ []) = malformed
+recordIn h (step ∷ card ∷ serial ∷ amount ∷ signature ∷ []) = signedIn h (numbersIn h step card serial amount) signature
+recordIn h (a ∷ b ∷ c ∷ d ∷ e ∷ f ∷ r) = malformed
+
+-- the ranges of every record that a line says
+pub record InRange (r : Record) : Type 0 where
+  pub cards : r .card ≤ 9999999999999999
+  pub serials : (1 ≤ r .serial) × (r .serial ≤ 4294967295)
+  pub amounts : (1 ≤ r .amount) × (r .amount ≤ 2000000)
+
+-- what is answered of a line, and what is left in the room for its signature
+abbrev pub entryOf : Found → Entry
+entryOf malformed = IllFormed
+entryOf (signed r signature) = WellFormed r
+
+abbrev pub signatureOf : Found → List ℕ → List ℕ
+signatureOf malformed room = room
+signatureOf (signed r signature) room = signature
+
+-- a line was read
+pub record Reads (found : Found) (room : List ℕ) (r : Entry) (room′ : List ℕ) : Type 0 where
+  pub answers : r ≡ entryOf found
+  pub leaves : room′ ≡ signatureOf found room
+
+-- THE SIGNED MESSAGE: "the digits of card, serial and amount, run together"
+unfoldable pub message : Record → List ℕ
+message r = padded 16 (r .card) ++ (decimal (r .serial) ++ decimal (r .amount))

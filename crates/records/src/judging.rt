@@ -1,0 +1,95 @@
+// The case of a line, and what it leaves to the next.
+ghost use mathlib.Core.Path.{_≡_};
+ghost use lib.ListN.{length};
+ghost use Rattle.text.specs.Fields.{fields};
+ghost use Rattle.rules.specs.Table.{signatureSize};
+ghost use Rattle.records.specs.FirstLine.{Fits};
+ghost use Rattle.records.specs.Records.{recordIn, InRange};
+ghost use Rattle.records.specs.Judging.{caseOf, passed, added, after, Sound, Adds};
+use crate::Books;
+use crate::Entry;
+use crate::Header;
+use crate::Judged;
+use crate::Record;
+use crate::reading::read_record;
+use crate::signing::is_accepted;
+
+// Room for the longest signature; only its length matters.
+fn signature_room() -> [u8; 992]
+    ensures { λ r. ⌜ length r ≡ 992 ⌝ }
+{
+    [0; 992]
+}
+
+fn judge_in(header: Header, books: Books, line: &[u8], signature: &mut [u8]) -> Judged
+    requires { ⌜ Fits header × Sound books × (length (now signature) ≡ signatureSize (header .h1) (header .h2)) ⌝ }
+    ensures { λ r. ⌜ r ≡ caseOf header books (recordIn header (fields (now (line .entry)))) ⌝ }
+{
+    let entry = read_record(header, line, signature);
+    let Entry::WellFormed(r) = entry else {
+        return Judged::Malformed;
+    };
+    if r.step < books.step {
+        return Judged::StepBelow(r);
+    }
+    let serial = books.serial + 1;
+    if r.serial != serial {
+        return Judged::OtherSerial(r);
+    }
+    let good = is_accepted(header, r, signature);
+    if good {
+        return Judged::Good(r);
+    }
+    Judged::NotAccepted(r)
+}
+
+// The case of a line below this header, after lines that left these books.
+pub fn judge(header: Header, books: Books, line: &[u8]) -> Judged
+    requires { ⌜ Fits header × Sound books ⌝ }
+    ensures { λ r. ⌜ r ≡ caseOf header books (recordIn header (fields (now (line .entry)))) ⌝ }
+    ensures { λ _. ⌜ now (line .exit) ≡ now (line .entry) ⌝ }
+{
+    let mut room = signature_room();
+    let n = key::layout::signature_size(header.h1 as usize, header.h2 as usize);
+    judge_in(header, books, line, &mut room[0..n])
+}
+
+fn pass(books: Books) -> Books
+    requires { ⌜ Sound books ⌝ }
+    ensures { λ r. ⌜ r ≡ passed books ⌝ }
+{
+    Books {
+        number: books.number + 1,
+        step: books.step,
+        serial: books.serial,
+        count: books.count,
+        cents: books.cents,
+    }
+}
+
+fn add(books: Books, r: Record) -> Books
+    requires { ⌜ Sound books × InRange r ⌝ }
+    ensures { λ sum. ⌜ sum ≡ added books r ⌝ }
+{
+    Books {
+        number: books.number + 1,
+        step: r.step,
+        serial: r.serial,
+        count: books.count + 1,
+        cents: books.cents + r.amount,
+    }
+}
+
+// The books after a judged line.
+pub fn after(books: Books, judged: Judged) -> Books
+    requires { ⌜ Sound books × Adds judged ⌝ }
+    ensures { λ r. ⌜ r ≡ after books judged ⌝ }
+{
+    match judged {
+        Judged::Malformed => pass(books),
+        Judged::StepBelow(_) => pass(books),
+        Judged::OtherSerial(_) => pass(books),
+        Judged::NotAccepted(_) => pass(books),
+        Judged::Good(r) => add(books, r),
+    }
+}
