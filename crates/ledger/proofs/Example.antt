@@ -11,8 +11,8 @@ use Rattle.text.specs.Digits.{digits, decimal}
 use Rattle.lines.specs.Lines.{ended, linesAfter, lastLine, linesOf}
 use Rattle.records.specs.FirstLine.{kes, headWith, headIn}
 use Rattle.records.specs.Records.{cardIn, numbersIn, recordIn}
-use Rattle.records.specs.Judging.{caseOf, judged, judgedFrom}
-use Rattle.records.specs.Printing.{verdictLine, totalLine, printed}
+use Rattle.verdicts.specs.Judging.{caseOf, judged, judgedFrom}
+use Rattle.verdicts.specs.Printing.{verdictLine, totalLine, printed}
 use Rattle.ledger.specs.Output.{headOf, reported, journalReport, journalOutput}
 
 -- `1111222233334444`

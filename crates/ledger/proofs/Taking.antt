@@ -12,18 +12,18 @@ use Rattle.lines.proofs.Law.{last-line}
 use Rattle.records.specs.declared.Header.{Header}
 use Rattle.records.specs.declared.Headed.{Headed}
 use Rattle.records.specs.declared.Answer.the-variants.{Right, Wrong}
-use Rattle.records.specs.declared.Books.{Books}
-use Rattle.records.specs.declared.Judged.{Judged}
-use Rattle.records.specs.declared.Judged.the-variants.{Malformed, StepBelow, OtherSerial, NotAccepted, Good}
+use Rattle.verdicts.specs.declared.Books.{Books}
+use Rattle.verdicts.specs.declared.Judged.{Judged}
+use Rattle.verdicts.specs.declared.Judged.the-variants.{Malformed, StepBelow, OtherSerial, NotAccepted, Good}
 use Rattle.ledger.specs.declared.Phase.{Phase}
 use Rattle.ledger.specs.declared.Phase.the-variants.{First, Body, Over}
 use Rattle.ledger.specs.declared.Fed.{Fed}
 use Rattle.records.specs.FirstLine.{Head, right, wrong, headed, Fits}
-use Rattle.records.specs.Judging.{start, passed, after, judged, judgedFrom, Sound, Adds}
-use Rattle.records.specs.Printing.{verdictLine, totalLine, wrongLine, printed}
+use Rattle.verdicts.specs.Judging.{start, passed, after, judged, judgedFrom, Sound, Adds}
+use Rattle.verdicts.specs.Printing.{verdictLine, totalLine, wrongLine, printed}
 use Rattle.ledger.specs.Output.{headOf, under, reported, print}
 use Rattle.ledger.specs.Feeding.{outFrom, betweenLines, Writes, endOf}
-use Rattle.records.proofs.Texts.{verdict-length, total-length}
+use Rattle.verdicts.proofs.Texts.{verdict-length, total-length}
 
 -- no line is left
 pub out-none : (h : Header) (p : Phase) → outFrom h p [] ≡ endOf p

@@ -10,12 +10,12 @@ use Rattle.fields.specs.Tests.{pick}
 use Rattle.text.specs.Digits.{Puts}
 use Rattle.lines.specs.Lines.{Line, unended, linesAfter, lastLine}
 use Rattle.records.specs.FirstLine.{noHeader, Fits}
-use Rattle.records.specs.Judging.{judged, judgedFrom, Sound}
-use Rattle.records.specs.Printing.{wrongLine, totalLine, printed}
+use Rattle.verdicts.specs.Judging.{judged, judgedFrom, Sound}
+use Rattle.verdicts.specs.Printing.{wrongLine, totalLine, printed}
 use Rattle.ledger.specs.Output.{reported, print}
 use Rattle.records.specs.declared.Header.{Header}
-use Rattle.records.specs.declared.Books.{Books}
-use Rattle.records.specs.declared.Judged.{Judged}
+use Rattle.verdicts.specs.declared.Books.{Books}
+use Rattle.verdicts.specs.declared.Judged.{Judged}
 use Rattle.ledger.specs.declared.Phase.{Phase}
 use Rattle.ledger.specs.declared.Phase.the-variants.{First, Body, Over}
 use Rattle.ledger.specs.declared.Stream.{Stream}

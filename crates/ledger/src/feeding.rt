@@ -5,23 +5,23 @@ ghost use lib.ListN.{length};
 ghost use Rattle.text.specs.Digits.{Puts};
 ghost use Rattle.lines.specs.Lines.{whole, long};
 ghost use Rattle.records.specs.FirstLine.{Fits};
-ghost use Rattle.records.specs.Judging.{start, Sound, Adds};
+ghost use Rattle.verdicts.specs.Judging.{start, Sound, Adds};
 ghost use Rattle.ledger.specs.Feeding.{fresh, Kept, betweenLines, isOver, Writes, Reports, Ready, Feeds, Steps, endOf, lastOf};
 use crate::Fed;
 use crate::Phase;
 use crate::Stream;
 use lines::Taken;
 use records::Answer;
-use records::Books;
 use records::Header;
-use records::Judged;
-use records::after;
-use records::judge;
 use records::no_header;
-use records::put_line;
-use records::put_total;
-use records::put_wrong;
 use records::read_header;
+use verdicts::Books;
+use verdicts::Judged;
+use verdicts::after;
+use verdicts::judge;
+use verdicts::put_line;
+use verdicts::put_total;
+use verdicts::put_wrong;
 
 // A line of a piece was taken; the next one starts at index next.
 pub struct Step {

@@ -5,8 +5,8 @@ pub use feeding::feed;
 pub use feeding::finish;
 pub use feeding::is_over;
 pub use feeding::new;
-use records::Books;
 use records::Header;
+use verdicts::Books;
 
 // Where the reading is: before line 1, below a header, or past all that counts.
 pub enum Phase {

@@ -2,6 +2,4 @@ pub mod Fielded
 pub mod Heading
 pub mod Recording
 pub mod Ranges
-pub mod Cases
-pub mod Texts
 pub mod Message

@@ -3,28 +3,23 @@ use mathlib.Core.Path.{_≡_, refl, subst}
 use mathlib.Core.List.{List, [], _∷_}
 use mathlib.Core.Bool.{Bool, true, false}
 use Prim.{Unit}
-use Prim.Native.Nat.{ℕ, _+_, _-_, _≤_}
+use Prim.Native.Nat.{ℕ, _-_, _≤_}
 use native.Mathlib.Omega.{arith}
-use lib.Dec.{ltb, eqb}
+use lib.Dec.{eqb}
 use lib.ListN.{length}
 use Rattle.fields.specs.Tests.{pick, same}
-use Rattle.text.specs.Fields.{fields}
 use Rattle.text.specs.Hex.{isHexOf, bytesOf}
 use Rattle.text.specs.Numerals.{numberIn, digitsUpTo, given}
 use Rattle.text.proofs.Reading.{picked, digits-within, within}
 use Rattle.text.specs.declared.Number.{Number}
 use Rattle.text.specs.declared.Number.the-variants.{Value, Bad}
-use Rattle.lines.specs.Lines.{Line, whole, long, unended}
 use Rattle.rules.specs.Table.{steps, signatureSize}
 use Rattle.records.specs.declared.Header.{Header}
 use Rattle.records.specs.declared.Record.{Record}
-use Rattle.records.specs.declared.Books.{Books}
 use Rattle.records.specs.declared.Entry.{Entry}
 use Rattle.records.specs.declared.Entry.the-variants.{WellFormed, IllFormed}
-use Rattle.records.specs.declared.Judged.{Judged}
 use Rattle.records.specs.FirstLine.{right, wrong, kes, headWith, headIn, Fits}
 use Rattle.records.specs.Records.{cardIn, numbersIn, Found, malformed, signed, signedIn, recordIn, InRange}
-use Rattle.records.specs.Judging.{accepts, caseOf, judged, Adds}
 
 -- a number was given
 pub record Given {A : Type 0} (n : Number) (f : ℕ → A) (x : A) : Type 0 where
@@ -83,7 +78,8 @@ numbers-range h step card serial amount {r} e =
       amounts = within 1 2000000 amount (a .is);
     })
 
-abbrev Ranged : Found → Type 0
+-- as it was found
+abbrev pub Ranged : Found → Type 0
 Ranged malformed = Unit {0}
 Ranged (signed r s) = InRange r
 
@@ -95,7 +91,7 @@ signed-ranged : (h : Header) (e : Entry) (s : List ℕ) → ((r : Record) → e 
 signed-ranged h IllFormed s f = tt
 signed-ranged h (WellFormed r) s f = pick-ranged (isHexOf (signatureSize (h .h1) (h .h2)) s) (signed r (bytesOf s)) (f r refl)
 
-record-ranged : (h : Header) (fs : List (List ℕ)) → Ranged (recordIn h fs)
+pub record-ranged : (h : Header) (fs : List (List ℕ)) → Ranged (recordIn h fs)
 unfolding recordIn
 record-ranged h [] = tt
 record-ranged h (a ∷ []) = tt
@@ -104,20 +100,3 @@ record-ranged h (a ∷ b ∷ c ∷ []) = tt
 record-ranged h (a ∷ b ∷ c ∷ d ∷ []) = tt
 record-ranged h (a ∷ b ∷ c ∷ d ∷ s ∷ []) = signed-ranged h (numbersIn h a b c d) s (λ r e. numbers-range h a b c d e)
 record-ranged h (a ∷ b ∷ c ∷ d ∷ s ∷ e ∷ r) = tt
-
--- JUDGED LINES
-pick-adds : (t : Bool) (x y : Judged) → Adds x → Adds y → Adds (pick t x y)
-pick-adds true x y a b = a
-pick-adds false x y a b = b
-
-case-adds : (h : Header) (b : Books) (found : Found) → Ranged found → Adds (caseOf h b found)
-unfolding caseOf
-case-adds h b malformed i = tt
-case-adds h b (signed r s) i =
-    pick-adds (ltb (r .step) (b .step)) _ _ tt (pick-adds (eqb (r .serial) (b .serial + 1)) _ _ (pick-adds (accepts h r s) _ _ i tt) tt)
-
-pub judged-adds : (h : Header) (b : Books) (l : Line) → Adds (judged h b l)
-unfolding judged
-judged-adds h b (whole l) = case-adds h b (recordIn h (fields l)) (record-ranged h (fields l))
-judged-adds h b long = tt
-judged-adds h b unended = tt

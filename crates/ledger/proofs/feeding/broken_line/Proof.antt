@@ -2,7 +2,7 @@ use mathlib.Core.Path.{refl, subst}
 use native.Mathlib.Omega.{arith}
 use borrow.Author.Needs.{needs}
 use Rattle.lines.specs.Lines.{long}
-use Rattle.records.specs.Judging.{judged}
+use Rattle.verdicts.specs.Judging.{judged}
 use Rattle.ledger.specs.Feeding.{Kept}
 use Rattle.ledger.proofs.Taking.{writes-in, writes-over}
 use Rattle.ledger.proofs.feeding.broken_line.Statement.{statement}

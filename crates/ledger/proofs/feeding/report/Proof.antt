@@ -1,6 +1,6 @@
 use native.Mathlib.Omega.{arith}
 use borrow.Author.Needs.{needs}
-use Rattle.records.proofs.Texts.{verdict-length}
+use Rattle.verdicts.proofs.Texts.{verdict-length}
 use Rattle.ledger.proofs.Taking.{report-on, report-last}
 use Rattle.ledger.proofs.feeding.report.Statement.{statement}
 use Rattle.ledger.proofs.feeding.report.Tie as tie

@@ -2,9 +2,9 @@ use mathlib.Core.Path.{sym, subst}
 use native.Mathlib.Omega.{arith}
 use borrow.Author.Needs.{needs}
 use Rattle.lines.specs.Lines.{whole}
-use Rattle.records.specs.Judging.{judged, Adds}
+use Rattle.verdicts.specs.Judging.{judged, Adds}
 use Rattle.ledger.specs.Feeding.{Kept}
-use Rattle.records.proofs.Ranges.{judged-adds}
+use Rattle.verdicts.proofs.Adding.{judged-adds}
 use Rattle.ledger.proofs.Taking.{writes-in, writes-over}
 use Rattle.ledger.proofs.feeding.whole_line.Statement.{statement}
 use Rattle.ledger.proofs.feeding.whole_line.Tie as tie

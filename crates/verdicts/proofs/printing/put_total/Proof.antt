@@ -1,9 +1,9 @@
 use native.Mathlib.Omega.{arith}
 use borrow.Author.Needs.{needs}
 use Rattle.text.proofs.Writing.{decimal-length}
-use Rattle.records.proofs.Texts.{puts-total}
-use Rattle.records.proofs.printing.put_total.Statement.{statement}
-use Rattle.records.proofs.printing.put_total.Tie as tie
+use Rattle.verdicts.proofs.Texts.{puts-total}
+use Rattle.verdicts.proofs.printing.put_total.Statement.{statement}
+use Rattle.verdicts.proofs.printing.put_total.Tie as tie
 
 put-number-requires : tie.Need-put-number-requires
 put-number-requires c κs = omega (arith, decimal-length (c .before .before .before .before .before .before .before .args .books .count), c .before .before .before .put .ensures .0 .ends)

@@ -11,12 +11,12 @@ use Rattle.lines.specs.Lines.{Line, whole, long, unended}
 use Rattle.rules.specs.Calls.{verifyOutcome}
 use Rattle.rules.specs.declared.Verdict.{Verdict}
 use Rattle.rules.specs.declared.Verdict.the-variants.{Accepted, Rejected, Refused}
 use Rattle.records.specs.Records.{Found, malformed, signed, recordIn, message, InRange}
 use Rattle.records.specs.declared.Header.{Header}
 use Rattle.records.specs.declared.Record.{Record}
-use Rattle.records.specs.declared.Books.{Books}
-use Rattle.records.specs.declared.Judged.{Judged}
-use Rattle.records.specs.declared.Judged.the-variants.{Malformed, StepBelow, OtherSerial, NotAccepted, Good}
+use Rattle.verdicts.specs.declared.Books.{Books}
+use Rattle.verdicts.specs.declared.Judged.{Judged}
+use Rattle.verdicts.specs.declared.Judged.the-variants.{Malformed, StepBelow, OtherSerial, NotAccepted, Good}
 
 -- a verdict other than accepted is B
 abbrev pub isAccepted : Verdict → Bool

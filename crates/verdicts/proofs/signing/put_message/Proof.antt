@@ -1,9 +1,9 @@
 use native.Mathlib.Omega.{arith}
 use borrow.Author.Needs.{needs}
 use Rattle.text.proofs.Writing.{decimal-length, padded-length}
-use Rattle.records.proofs.Texts.{puts-message}
-use Rattle.records.proofs.signing.put_message.Statement.{statement}
-use Rattle.records.proofs.signing.put_message.Tie as tie
+use Rattle.verdicts.proofs.Texts.{puts-message}
+use Rattle.verdicts.proofs.signing.put_message.Statement.{statement}
+use Rattle.verdicts.proofs.signing.put_message.Tie as tie
 
 put-number-requires : tie.Need-put-number-requires
 put-number-requires c κs =

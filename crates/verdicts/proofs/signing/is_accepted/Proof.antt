@@ -2,10 +2,10 @@ use mathlib.Core.Path.{refl}
 use native.Mathlib.Omega.{arith}
 use borrow.Author.Needs.{needs}
 use Rattle.text.proofs.Writing.{puts-front}
-use Rattle.records.proofs.Cases.{accepts-by}
-use Rattle.records.proofs.Texts.{message-length}
-use Rattle.records.proofs.signing.is_accepted.Statement.{statement}
-use Rattle.records.proofs.signing.is_accepted.Tie as tie
+use Rattle.verdicts.proofs.Cases.{accepts-by}
+use Rattle.verdicts.proofs.Texts.{message-length}
+use Rattle.verdicts.proofs.signing.is_accepted.Statement.{statement}
+use Rattle.verdicts.proofs.signing.is_accepted.Tie as tie
 
 part-verify-end : tie.Need-part-verify-end
 part-verify-end c =

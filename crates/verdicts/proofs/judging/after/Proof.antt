@@ -1,8 +1,8 @@
 use mathlib.Core.Path.{sym, ap, _∙_, subst}
 use borrow.Author.Needs.{needs}
-use Rattle.records.specs.Judging.{after, Adds}
-use Rattle.records.proofs.judging.after.Statement.{statement}
-use Rattle.records.proofs.judging.after.Tie as tie
+use Rattle.verdicts.specs.Judging.{after, Adds}
+use Rattle.verdicts.proofs.judging.after.Statement.{statement}
+use Rattle.verdicts.proofs.judging.after.Tie as tie
 
 add-requires : tie.Need-add-requires
 add-requires c κs = (c .before .before .before .pre .0, subst Adds (c .before .judged .given .1) (c .before .before .before .pre .1))

@@ -6,12 +6,12 @@ use Prim.Native.Nat.{ℕ, _+_, _≤_, _<_}
 use borrow.Author.Tests.{lt-ltb, le-ltb, eq-eqb, ne-eqb}
 use Rattle.rules.specs.Calls.{verifyOutcome}
 use Rattle.rules.specs.declared.Verdict.{Verdict}
 use Rattle.records.specs.declared.Header.{Header}
 use Rattle.records.specs.declared.Record.{Record}
-use Rattle.records.specs.declared.Books.{Books}
-use Rattle.records.specs.declared.Judged.the-variants.{Malformed, StepBelow, OtherSerial, NotAccepted, Good}
+use Rattle.verdicts.specs.declared.Books.{Books}
+use Rattle.verdicts.specs.declared.Judged.the-variants.{Malformed, StepBelow, OtherSerial, NotAccepted, Good}
 use Rattle.records.specs.Records.{Found, malformed, signed, message}
-use Rattle.records.specs.Judging.{isAccepted, accepts, caseOf}
+use Rattle.verdicts.specs.Judging.{isAccepted, accepts, caseOf}
 
 pub accepts-by : (h : Header) (r : Record) (s : List ℕ) {m : List ℕ} {v w : Verdict} → m ≡ message r → v ≡ verifyOutcome (h .h1) (h .h2) (h .key) (r .step) m s .answer → v ≡ w → isAccepted w ≡ accepts h r s
 unfolding accepts

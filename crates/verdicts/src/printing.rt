@@ -3,7 +3,7 @@ ghost use mathlib.Core.Path.{_≡_};
 ghost use Prim.Native.Nat.{_+_, _≤_};
 ghost use lib.ListN.{length};
 ghost use Rattle.text.specs.Digits.{Puts};
-ghost use Rattle.records.specs.Printing.{letterOf, verdictLine, totalLine, wrongLine};
+ghost use Rattle.verdicts.specs.Printing.{letterOf, verdictLine, totalLine, wrongLine};
 use crate::Books;
 use crate::Judged;
 use text::put;

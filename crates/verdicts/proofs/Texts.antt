@@ -6,11 +6,11 @@ use native.Mathlib.Omega.{arith}
 use lib.ListN.{length, length-append}
 use Rattle.text.specs.Digits.{decimal, padded, Puts}
 use Rattle.text.proofs.Writing.{puts-then, decimal-length, padded-length}
 use Rattle.records.specs.declared.Record.{Record}
-use Rattle.records.specs.declared.Books.{Books}
-use Rattle.records.specs.declared.Judged.{Judged}
+use Rattle.verdicts.specs.declared.Books.{Books}
+use Rattle.verdicts.specs.declared.Judged.{Judged}
 use Rattle.records.specs.Records.{message}
-use Rattle.records.specs.Printing.{letterOf, verdictLine, totalLine}
+use Rattle.verdicts.specs.Printing.{letterOf, verdictLine, totalLine}
 
 pub puts-message : (r : Record) {d d₁ d₂ d₃ : List ℕ} {a b e : ℕ} → 0 ≤ length d → Puts d 0 (padded 16 (r .card)) a d₁
     → Puts d₁ a (decimal (r .serial)) b d₂ → Puts d₂ b (decimal (r .amount)) e d₃ → Puts d 0 (message r) e d₃

@@ -3,11 +3,11 @@ ghost use mathlib.Core.Path.{_≡_};
 ghost use Prim.Native.Nat.{_≤_};
 ghost use lib.ListN.{length};
 ghost use Rattle.text.specs.Digits.{Puts};
 ghost use Rattle.records.specs.Records.{message};
-ghost use Rattle.records.specs.Judging.{accepts};
-use crate::Header;
-use crate::Record;
+ghost use Rattle.verdicts.specs.Judging.{accepts};
 use key::Verdict;
+use records::Header;
+use records::Record;
 
 // The digits of card, serial and amount, run together, at the front of out.
 pub fn put_message(r: Record, out: &mut [u8]) -> usize

@@ -1,7 +1,7 @@
 use borrow.Author.Needs.{needs}
-use Rattle.records.specs.Printing.{wrongLine}
-use Rattle.records.proofs.printing.put_wrong.Statement.{statement}
-use Rattle.records.proofs.printing.put_wrong.Tie as tie
+use Rattle.verdicts.specs.Printing.{wrongLine}
+use Rattle.verdicts.proofs.printing.put_wrong.Statement.{statement}
+use Rattle.verdicts.proofs.printing.put_wrong.Tie as tie
 
 returns : tie.Need-returns
 unfolding wrongLine

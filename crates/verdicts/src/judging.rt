@@ -3,16 +3,16 @@ ghost use mathlib.Core.Path.{_≡_};
 ghost use lib.ListN.{length};
 ghost use Rattle.text.specs.Fields.{fields};
 ghost use Rattle.rules.specs.Table.{signatureSize};
 ghost use Rattle.records.specs.FirstLine.{Fits};
 ghost use Rattle.records.specs.Records.{recordIn, InRange};
-ghost use Rattle.records.specs.Judging.{caseOf, passed, added, after, Sound, Adds};
+ghost use Rattle.verdicts.specs.Judging.{caseOf, passed, added, after, Sound, Adds};
 use crate::Books;
-use crate::Entry;
-use crate::Header;
 use crate::Judged;
-use crate::Record;
-use crate::reading::read_record;
 use crate::signing::is_accepted;
+use records::Entry;
+use records::Header;
+use records::Record;
+use records::read_record;
 
 // Room for the longest signature; only its length matters.
 fn signature_room() -> [u8; 992]

@@ -3,10 +3,10 @@
 use mathlib.Core.List.{List, [], _∷_, _++_}
 use Prim.Native.Nat.{ℕ}
 use Rattle.text.specs.Digits.{decimal}
-use Rattle.records.specs.Judging.{after}
-use Rattle.records.specs.declared.Books.{Books}
-use Rattle.records.specs.declared.Judged.{Judged}
-use Rattle.records.specs.declared.Judged.the-variants.{Malformed, StepBelow, OtherSerial, NotAccepted, Good}
+use Rattle.verdicts.specs.Judging.{after}
+use Rattle.verdicts.specs.declared.Books.{Books}
+use Rattle.verdicts.specs.declared.Judged.{Judged}
+use Rattle.verdicts.specs.declared.Judged.the-variants.{Malformed, StepBelow, OtherSerial, NotAccepted, Good}
 
 -- the letter of each case: M, O, S, B, G
 abbrev pub letterOf : Judged → ℕ

@@ -1,10 +1,10 @@
 use mathlib.Core.Path.{sym, _∙_}
 use native.Mathlib.Omega.{arith}
 use borrow.Author.Needs.{needs}
 use Rattle.records.proofs.Recording.{found-none, found-signed}
-use Rattle.records.proofs.Cases.{case-M, case-O, case-S, case-B, case-G}
-use Rattle.records.proofs.judging.judge_in.Statement.{statement}
-use Rattle.records.proofs.judging.judge_in.Tie as tie
+use Rattle.verdicts.proofs.Cases.{case-M, case-O, case-S, case-B, case-G}
+use Rattle.verdicts.proofs.judging.judge_in.Statement.{statement}
+use Rattle.verdicts.proofs.judging.judge_in.Tie as tie
 
 returns : tie.Need-returns
 returns c = case-M _ _ (found-none _ (c .before .before .before .before .read-record .ensures .0) (c .enum-told .given .1))

@@ -1,9 +1,9 @@
 use native.Mathlib.Omega.{arith}
 use borrow.Author.Needs.{needs}
 use Rattle.text.proofs.Writing.{decimal-length}
-use Rattle.records.proofs.Texts.{puts-line}
-use Rattle.records.proofs.printing.put_line.Statement.{statement}
-use Rattle.records.proofs.printing.put_line.Tie as tie
+use Rattle.verdicts.proofs.Texts.{puts-line}
+use Rattle.verdicts.proofs.printing.put_line.Statement.{statement}
+use Rattle.verdicts.proofs.printing.put_line.Tie as tie
 
 put-number-requires : tie.Need-put-number-requires
 put-number-requires c κs = omega (arith, decimal-length (c .before .before .args .number))
