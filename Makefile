@@ -3,7 +3,7 @@
 
 help:
 	@echo 'make demo    build everything for the desk and show a short day of it, and one at a fair'
-	@echo 'make test    every check there is: host tests, then the gate (rt ci)'
+	@echo 'make test    every check there is: host tests and the gate (rt ci), side by side'
 	@echo 'make desk    build/: the library and programs with real Ed25519 (ED25519=sodium or openssl)'
 	@echo 'make install puts library, header, journal and man pages under PREFIX (and DESTDIR)'
 	@echo 'make bench   race the hash, the calls and the journal against plain C and libsodium alone'
@@ -24,8 +24,7 @@ demo: desk
 	@host/demo
 
 test:
-	@host/test/all
-	@rt ci
+	@host/gate
 
 bench: desk
 	@host/need gcc libsodium-dev valgrind python3
