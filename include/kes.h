@@ -61,7 +61,7 @@ enum kes_numbers {
 
 /* Stack that a caller leaves free below it: what a call may use, with the Ed25519 library, and what kes_wipe clears.
  * Measured (host/test/stack): under 28,000 bytes with libsodium 1.0.18, under 30,000 with OpenSSL 3.0, of which kes_fair_make keeps
- * 24,576 for what it has asked and not yet written, all public; under 9,000 and 11,000 without the fair. The rest is margin. */
+ * 24,576 for what it has asked and not yet written, all public; under 10,000 and 12,000 without the fair. The rest is margin. */
 #define KES_STACK 73728
 
 /* Sizes and steps of a key of these heights, 0 where a height is above 12. */
