@@ -28,7 +28,7 @@ test:
 
 bench: desk
 	@host/need gcc libsodium-dev valgrind python3
-	@rt staticlib blake2b_race >build/obj/race.log || { cat build/obj/race.log; exit 1; }
+	@desk/archive blake2b_race build/obj/libblake2b_race.a
 	@host/bench/run
 
 plot:

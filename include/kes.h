@@ -60,8 +60,8 @@ enum kes_numbers {
 #define KES_FAIR_CACHE_MAX 32772u
 
 /* Stack that a caller leaves free below it: what a call may use, with the Ed25519 library, and what kes_wipe clears.
- * Measured (host/test/stack): under 28,000 bytes with libsodium 1.0.18, under 30,000 with OpenSSL 3.0, of which kes_fair_make keeps
- * 24,576 for what it has asked and not yet written, all public; under 10,000 and 12,000 without the fair. The rest is margin. */
+ * Measured (host/test/stack) on 64-bit Arm: under 27,000 bytes with libsodium 1.0.18, under 28,000 with OpenSSL 3.0, of which
+ * kes_fair_make keeps 24,576 for what it has asked and not yet written, all public; under 11,000 without the fair. The rest is margin. */
 #define KES_STACK 73728
 
 /* Sizes and steps of a key of these heights, 0 where a height is above 12. */
