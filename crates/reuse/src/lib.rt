@@ -1,0 +1,1 @@
+// One signature, one step: theorems alone, over the definitions of crate `rules`.
