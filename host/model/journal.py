@@ -5,6 +5,7 @@ import re
 from kes import DONE, TALLEST, signature_size, steps
 
 LONGEST_LINE = 2048
+LAST_LINE = 2**32 - 1
 SHORT_HEIGHTS = 6, 6
 
 
@@ -59,7 +60,8 @@ class Judge:
         # a fixed function of its input, so no verdict is worked out twice
         self.verify = functools.lru_cache(maxsize=2**12)(scheme.verify)
 
-    def output(self, data):
+    def output(self, data, first=2):
+        """What is written of a journal, whose later lines begin at number first."""
         lines = cut_lines(data)
         head = header(lines[0]) if lines else None
         if head is None:
@@ -67,7 +69,7 @@ class Judge:
         h1, h2, key = head
         last_step = last_serial = count = cents = 0
         out = []
-        for n, line in enumerate(lines[1:], 2):
+        for n, line in zip(range(first, LAST_LINE + 1), lines[1:]):
             found = record(line, h1, h2)
             letter = self.letter(head, found, last_step, last_serial)
             if letter in self.counted:

@@ -1,6 +1,6 @@
 -- THE LAW: however the input is cut into pieces, what a run writes in all is the journal's output.
 use mathlib.Core.Path.{_≡_, refl, sym, ap, _∙_}
-use mathlib.Core.List.{List, [], _∷_, _++_}
+use mathlib.Core.List.{List, [], _∷_, _++_, append-nil}
 use mathlib.Core.Bool.{true}
 use Prim.Native.Nat.{ℕ, _≤_}
 use native.Mathlib.Omega.{arith}
@@ -17,7 +17,7 @@ use Rattle.ledger.specs.declared.Phase.the-variants.{First, Body, Over}
 use Rattle.ledger.specs.declared.Stream.{Stream}
 use Rattle.ledger.specs.declared.Fed.{Fed}
 use Rattle.ledger.specs.Output.{journalReport, journalOutput}
-use Rattle.ledger.specs.Feeding.{fresh, outFrom, remaining, isOver, Writes, Ready, endOf, lastOf, Runs, ends, stops, feeds, joined}
+use Rattle.ledger.specs.Feeding.{fresh, outFrom, remaining, isOver, Writes, Ready, Feeds, endOf, lastOf, Runs, ends, stops, feeds, joined}
 use Rattle.ledger.proofs.Taking.{out-none, unended-long}
 
 -- what the end of the input writes is all that was still to be written
@@ -58,9 +58,18 @@ pub fresh-ready : {s : Stream} {line : List ℕ} → s ≡ fresh → length line
 unfolding fresh
 fresh-ready e l = rw e (record { keeps = tt; fits = omega arith; room = l })
 
-starts : (line input : List ℕ) → remaining fresh (take (fresh .size) line) input ≡ journalOutput input
+pub starts : (line input : List ℕ) → remaining fresh (take (fresh .size) line) input ≡ journalOutput input
 unfolding remaining fresh outFrom journalOutput journalReport linesOf
 starts line input = refl
 
 pub law : (line : List ℕ) (pieces : List (List ℕ)) (written : List ℕ) → Runs fresh line pieces written → written ≡ journalOutput (joined pieces)
 law line pieces written r = run r ∙ starts line (joined pieces)
+
+-- one piece, and then the end of the input
+pub whole : (s : Stream) (line input out : List ℕ) {r : Fed} {line′ out₁ out₂ : List ℕ} {end : ℕ} → s ≡ fresh → (f : Feeds s line input out 0 r line′ out₁)
+    → Puts out₁ (r .at) (lastOf (r .stream)) end out₂ → Puts out 0 (journalOutput input) end out₂
+whole s line input out {r} {line′} {out₁} {out₂} {end} e f p =
+    let all : f .text ++ lastOf (r .stream) ≡ journalOutput input =
+    ap (λ (l : List ℕ). f .text ++ l) (last-remaining (r .stream) line′ (f .ready)) ∙ sym (f .goes [])
+    ∙ rw (append-nil, e) (starts line input) in
+    rw (← all) (puts-then (f .text) (lastOf (r .stream)) (omega arith) (f .puts) p)

@@ -1,5 +1,6 @@
 // The top-up journal: what an input of lines is worth, and the whole output.
 mod feeding;
+mod whole;
 
 pub use feeding::feed;
 pub use feeding::finish;
@@ -7,6 +8,7 @@ pub use feeding::is_over;
 pub use feeding::new;
 use records::Header;
 use verdicts::Books;
+pub use whole::judge_all;
 
 // Where the reading is: before line 1, below a header, or past all that counts.
 pub enum Phase {
