@@ -1,5 +1,6 @@
 use Rattle.rfc7693.specs.Rfc7693.{G}
 use borrow.Author.Needs.{needs}
+use native.Mathlib.Omega.{arith}
 use Rattle.rfc7693.proofs.mixing.mix.Statement.{statement}
 use Rattle.rfc7693.proofs.mixing.mix.Tie as tie
 
@@ -18,13 +19,13 @@ returns c =
 pub mix-spec : {M : Type 1} → statement M
 mix-spec =
     tie.close
-    (tie.spec
-    (λ c κs. search needs)
-    (λ c κs. search needs)
-    (λ c κs. search needs)
-    (λ c κs. search needs)
-    (λ c κs. search needs)
-    (λ c κs. search needs)
-    (λ c κs. search needs)
-    (λ c κs. search needs)
+    (tie.spec (λ c. search needs) (λ c. search needs) (λ c. search needs) (λ c. search needs)
+    (λ c κs. (c .pre 0, c .pre 1))
+    (λ c κs. (c .before .pre 3, c .before .pre 0, omega arith, omega arith))
+    (λ c κs. (c .before .before .pre 2, c .before .before .pre 3))
+    (λ c κs. (c .before .before .before .pre 1, c .before .before .before .pre 2, omega arith, omega arith))
+    (λ c κs. (c .before .before .before .before .pre 0, c .before .before .before .before .pre 1))
+    (λ c κs. (c .before .before .before .before .before .pre 3, c .before .before .before .before .before .pre 0, omega arith, omega arith))
+    (λ c κs. (c .before .before .before .before .before .before .pre 2, c .before .before .before .before .before .before .pre 3))
+    (λ c κs. (c .before .before .before .before .before .before .before .pre 1, c .before .before .before .before .before .before .before .pre 2, omega arith, omega arith))
     returns)
