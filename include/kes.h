@@ -64,8 +64,8 @@ enum kes_numbers {
  * kes_fair_make keeps 24,576 for what it has asked and not yet written, all public; under 11,000 without the fair. The rest is margin. */
 #define KES_STACK 73728
 
-/* Sizes and steps of a key of these heights, 0 where a height is above 12. */
-#define KES_HEIGHTS_FIT(h1, h2) ((h1) <= KES_HEIGHT_MAX && (h2) <= KES_HEIGHT_MAX)
+/* Sizes and steps of a key of these heights, 0 where a height is not 0 to 12, of whatever type. */
+#define KES_HEIGHTS_FIT(h1, h2) ((uint64_t)(h1) <= KES_HEIGHT_MAX && (uint64_t)(h2) <= KES_HEIGHT_MAX)
 #define KES_TABLE_SIZE(h1, h2) (KES_HEIGHTS_FIT(h1, h2) ? 264u + 128u * (size_t)(h1) + 96u * (size_t)(h2) : 0u)
 #define KES_SIGNATURE_SIZE(h1, h2) (KES_HEIGHTS_FIT(h1, h2) ? 224u + 32u * ((size_t)(h1) + (size_t)(h2)) : 0u)
 
@@ -74,7 +74,7 @@ static inline size_t kes_signature_size(uint64_t h1, uint64_t h2) { return KES_S
 static inline uint64_t kes_steps(uint64_t h1, uint64_t h2) { return KES_HEIGHTS_FIT(h1, h2) ? (uint64_t)1 << (h1 + h2) : 0; }
 
 /* Sizes of a cache of n entries and of the seeds that it is made from, 0 where n is not 1 to 256. */
-#define KES_FAIR_FITS(n) ((n) >= 1 && (n) <= KES_FAIR_MAX)
+#define KES_FAIR_FITS(n) ((uint64_t)(n) >= 1 && (uint64_t)(n) <= KES_FAIR_MAX)
 #define KES_FAIR_CACHE_SIZE(n) (KES_FAIR_FITS(n) ? 4u + 128u * (size_t)(n) : 0u)
 #define KES_FAIR_SEEDS_SIZE(n) (KES_FAIR_FITS(n) ? 32u * (size_t)(n) : 0u)
 

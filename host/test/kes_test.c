@@ -66,6 +66,16 @@ static void sizes(void)
     expect(kes_fair_cache_size(0) == 0 && kes_fair_cache_size(257) == 0 && kes_fair_seeds_size(0) == 0 && kes_fair_seeds_size(UINT64_MAX) == 0, "0 outside 1 to 256");
 }
 
+/* The macros take a number of any type: none below 0 wraps into a good one, and an int draws no warning. */
+static void signed_sizes(int height, long entries)
+{
+    expect(KES_TABLE_SIZE(height, height) == 712 && KES_SIGNATURE_SIZE(height, 2L) == 352, "sizes of heights that are int or long");
+    expect(KES_FAIR_CACHE_SIZE(entries) == 388 && KES_FAIR_SEEDS_SIZE((int)entries) == 96, "sizes of a fair whose entries are long or int");
+    expect(KES_TABLE_SIZE(-1L, 0) == 0 && KES_TABLE_SIZE(0, height - 3) == 0 && KES_TABLE_SIZE(entries - 4, 0) == 0, "no table below height 0");
+    expect(KES_SIGNATURE_SIZE(-1L, 0) == 0 && KES_SIGNATURE_SIZE(0, height - 3) == 0 && KES_SIGNATURE_SIZE(0, entries - 4) == 0, "no signature below height 0");
+    expect(KES_FAIR_CACHE_SIZE(height - 3) == 0 && KES_FAIR_CACHE_SIZE(INT64_MIN) == 0 && KES_FAIR_SEEDS_SIZE(entries - 4) == 0, "no fair below 1 entry");
+}
+
 static void making(void)
 {
     uint64_t made = make();
@@ -267,6 +277,7 @@ int main(int argc, char **argv)
         return 2;
     clear(&message);
     sizes();
+    signed_sizes(2, N);
     making();
     careless();
     moving();
