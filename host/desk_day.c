@@ -2,14 +2,15 @@
  *     desk_day FOLDER make [H1 H2]   makes the key (heights 6 and 6) and the journal
  *     desk_day FOLDER day            opens the desk and does what standard input says, a line each:
  *                                        top-up CARD CENTS
- *                                        tick STEP
+ *                                        tick STEP   as the clock says
+ *                                        jump STEP   as a person says who was asked whether a far tick is right
  * desk/desk.c has the order of work and its reasons, desk/files.c the files, desk/record.c the journal's lines. */
-#include <inttypes.h>
 #include <stdio.h>
 #include <string.h>
 
 #include "desk/desk.h"
 #include "desk/events.h"
+#include "desk/text.h"
 
 static int usage(void)
 {
@@ -17,31 +18,21 @@ static int usage(void)
     return 2;
 }
 
-static int tick(const char *line)
+static int understood(const char *line)
 {
-    uint64_t step;
-    int end = 0;
-    if (sscanf(line, "tick %10" SCNu64 "%n", &step, &end) != 1 || strcmp(line + end, "\n") != 0)
-        return 0;
-    desk_tick(step);
-    return 1;
-}
-
-static int top_up_or_tick(const char *line)
-{
-    return event_money(line, "top-up", desk_top_up) || tick(line);
+    return event_money(line, "top-up", desk_top_up) || event_step(line, "tick", desk_tick) || event_step(line, "jump", desk_jump);
 }
 
 static int day(const char *folder)
 {
     desk_open(folder);
-    return events_do(top_up_or_tick);
+    return events_do(understood);
 }
 
 static int make(const char *folder, const char *first, const char *second)
 {
     uint64_t h1, h2;
-    if (sscanf(first, "%2" SCNu64, &h1) != 1 || sscanf(second, "%2" SCNu64, &h2) != 1)
+    if (!get_number(&h1, first, "") || !get_number(&h2, second, ""))
         return usage();
     desk_make(folder, h1, h2);
     return 0;

@@ -4,12 +4,12 @@
  *                                     sale CARD CENTS
  *     fair_day FOLDER evening     destroys the cache; the last of the N sales does so too
  * desk/fair.c has the order of work and its reasons, desk/certificate.c and desk/sale.c the lines of the fair's file. */
-#include <inttypes.h>
 #include <stdio.h>
 #include <string.h>
 
 #include "desk/events.h"
 #include "desk/fair.h"
+#include "desk/text.h"
 #include "kes.h"
 
 static int usage(void)
@@ -26,8 +26,7 @@ static int sale(const char *line)
 static int morning(const char *folder, const char *number)
 {
     uint64_t entries;
-    int end = 0;
-    if (sscanf(number, "%3" SCNu64 "%n", &entries, &end) != 1 || number[end] != 0 || entries < 1 || entries > KES_FAIR_MAX)
+    if (!get_number(&entries, number, "") || entries < 1 || entries > KES_FAIR_MAX)
         return usage();
     fair_morning(folder, entries);
     return 0;

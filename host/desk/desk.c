@@ -214,7 +214,7 @@ void desk_top_up(const char *card, uint64_t amount)
 }
 
 /* A step that is not later is no fault: after a restart the clock may say again what it said before. */
-void desk_tick(uint64_t step)
+void desk_jump(uint64_t step)
 {
     uint64_t moved;
     if (step <= desk_step())
@@ -226,4 +226,12 @@ void desk_tick(uint64_t step)
     need(kes_number(moved), "kes_move");
     secret_replace(&KEY, desk.table, desk.table_len);
     show("step: %" PRIu64 "\n", step);
+}
+
+void desk_tick(uint64_t step)
+{
+    if (step > desk_step() + DESK_TICK_MOST)
+        show("ask: the clock says step %" PRIu64 ", and the key is at step %" PRIu64 "; if the clock is right, say: jump %" PRIu64 "\n", step, desk_step(), step);
+    else
+        desk_jump(step);
 }

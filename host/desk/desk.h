@@ -14,8 +14,13 @@ void desk_open(const char *folder);
 /* Tops a card up: a record in the journal, money on the chip, "done" on the display. Card and amount are in a record's range. */
 void desk_top_up(const char *card, uint64_t amount);
 
-/* What the clock says: moves the key, if the step is a later one. */
+/* What the clock says: moves the key, if the step is a later one. One that is further ahead than DESK_TICK_MOST steps asks a person,
+ * since nothing brings a burnt step back, and moves nothing. */
+enum { DESK_TICK_MOST = 288 };
 void desk_tick(uint64_t step);
+
+/* What a person says who was asked: moves the key however far. */
+void desk_jump(uint64_t step);
 
 /* What an open desk is registered as, and the step that it stands at. */
 const struct registered *desk_registered(void);

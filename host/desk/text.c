@@ -11,6 +11,15 @@ static unsigned digit(const char *digits, char c)
     return found == NULL || c == 0 ? 0 : (unsigned)(found - digits);
 }
 
+int get_number(uint64_t *number, const char *text, const char *end)
+{
+    size_t i, len = strspn(text, "0123456789");
+    *number = 0;
+    for (i = 0; i < len && i < 10; i++)
+        *number = 10 * *number + (uint64_t)(text[i] - '0');
+    return len >= 1 && len <= 10 && strcmp(text + len, end) == 0;
+}
+
 size_t put_hex(char *out, const uint8_t *bytes, size_t len)
 {
     size_t i;

@@ -5,6 +5,9 @@
 #include <stddef.h>
 #include <stdint.h>
 
+/* Reads a number: at most ten digits and nothing else, then this end of the text. Answers whether that stands there. */
+int get_number(uint64_t *number, const char *text, const char *end);
+
 /* Hex in lower case, two characters a byte. */
 size_t put_hex(char *out, const uint8_t *bytes, size_t len);
 /* What is not hex reads as some bytes: the caller writes them again and compares. */
