@@ -74,6 +74,11 @@ off_t file_size(int file)
     return status(file).st_size;
 }
 
+int file_private(int file)
+{
+    return (status(file).st_mode & (S_IRWXG | S_IRWXO)) == 0;
+}
+
 size_t file_read(int file, off_t at, void *bytes, size_t most)
 {
     size_t len = 0;

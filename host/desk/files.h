@@ -15,6 +15,8 @@ int file_open(const char *name);
 int file_new(const char *name);
 
 off_t file_size(int file);
+/* Whether its owner alone has rights on it. */
+int file_private(int file);
 /* Reads at a place, up to the end of the file; answers how many bytes there were. */
 size_t file_read(int file, off_t at, void *bytes, size_t most);
 void file_write(int file, const void *bytes, size_t len);

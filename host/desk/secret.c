@@ -48,6 +48,8 @@ size_t secret_read(const struct secret *secret, uint8_t *bytes, size_t most)
     int file = file_open(secret->name);
     if (file < 0)
         return 0;
+    if (!file_private(file))
+        refuse("others than the desk's user may read the file of a secret; if nobody has, take that right away (chmod 600), else register a new key");
     len = file_read(file, 0, bytes, most);
     if (file_size(file) != (off_t)len)
         refuse("the file of a secret is too long");

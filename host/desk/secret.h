@@ -21,7 +21,7 @@ void secret_replace(const struct secret *secret, const uint8_t *bytes, size_t le
 /* Leaves none. */
 void secret_destroy(const struct secret *secret);
 
-/* Reads it; answers how many bytes there were, 0 where there is none. */
+/* Reads it, if nobody but its owner can; answers how many bytes there were, 0 where there is none. */
 size_t secret_read(const struct secret *secret, uint8_t *bytes, size_t most);
 
 /* Zeroes and removes what a crash has left under the other two names. */

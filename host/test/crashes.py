@@ -45,6 +45,7 @@ def lay_out(files, folder):
     for names, data in files:
         first, *others = sorted(names)
         (folder / first).write_bytes(data)
+        (folder / first).chmod(0o600)
         for name in others:
             os.link(folder / first, folder / name)
 
