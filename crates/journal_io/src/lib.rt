@@ -22,7 +22,7 @@ fn reads_left(reads: u64, got: usize, stream: Stream) -> u64
     reads - 1
 }
 
-// Reads and writes in pieces, and stops where writing fails.
+// Reads and writes in pieces. A read that fails is not the end of the input: what was judged is written, and no total. Where writing fails it stops.
 fn run(from: i32, to: i32, line: &mut [u8], piece: &mut [u8], out: &mut [u8])
     requires { ⌜ (length (now line) ≡ 2048) × (length (now piece) ≤ 2048) × (length (now out) ≡ 65536) ⌝ }
 {
@@ -30,7 +30,12 @@ fn run(from: i32, to: i32, line: &mut [u8], piece: &mut [u8], out: &mut [u8])
     let mut at: usize = 0;
     let mut reads = u64::MAX;
     while reads > 0 {
-        let got = io::count(libc::read(from, piece), piece);
+        let answer = libc::read(from, piece);
+        if answer < 0 {
+            io::write_all(to, &out[0..at]);
+            return;
+        }
+        let got = io::count(answer, piece);
         let fed = ledger::feed(stream, &piece[0..got], line, out, at);
         let rest = fed.stream;
         stream = rest;

@@ -28,31 +28,36 @@ loop-holds c =
     let s = c .before .before .before .before in
     (fresh-ready (c .new .ensures) (s .pre .0), refl, refl, refl, s .pre .1, s .pre .2, omega arith)
 
+part-write-all-end : tie.Need-part-write-all-end Inv-loop μ-loop
+part-write-all-end c =
+    let l = c .before .before .before .before .before .before .before .loop in
+    omega (arith, l .inv .5, l .inv .6)
+
 feed-requires : tie.Need-feed-requires Inv-loop μ-loop
 feed-requires c κs =
-    let l = c .before .before .before .before .before .before .before .before .before .before .before .loop in
-    let r = c .before .before .before .before .before .before .before .before .read in
+    let l = c .before .before .before .before .before .before .before .before .before .before .before .before .loop in
+    let r = c .before .before .before .before .before .before .before .before .before .read in
     let n : length (take (c .before .before .before .before .count .result - 0) (r .last .1 .0)) ≤ length (r .last .1 .0) = simp length-take (omega arith) in
     (l .inv .0, omega (arith, n, r .kept .1 .0, l .inv .4, l .inv .5, l .inv .6))
 
-part-write-all-end : tie.Need-part-write-all-end Inv-loop μ-loop
-part-write-all-end c =
+part-write-all-end-2 : tie.Need-part-write-all-end-2 Inv-loop μ-loop
+part-write-all-end-2 c =
     let f = c .before .before .before .before .before .before .before .feed in
-    let l = c .before .before .before .before .before .before .before .before .before .before .before .before .before .before .before .before .before .before .before .loop in
+    let l = c .before .before .before .before .before .before .before .before .before .before .before .before .before .before .before .before .before .before .before .before .loop in
     omega (arith, puts-within (omega (arith, l .inv .5, l .inv .6)) (f .kept .1 .1 .1 .0) (f .ensures .0 .puts), f .kept .1 .1 .1 .0)
 
 loop-again : tie.Need-loop-again Inv-loop μ-loop
 loop-again c =
     let f = c .before .before .before .before .before .before .before .feed in
-    let r = c .before .before .before .before .before .before .before .before .before .before .before .before .before .before .before .before .read in
-    let l = c .before .before .before .before .before .before .before .before .before .before .before .before .before .before .before .before .before .before .before .loop in (
+    let r = c .before .before .before .before .before .before .before .before .before .before .before .before .before .before .before .before .before .read in
+    let l = c .before .before .before .before .before .before .before .before .before .before .before .before .before .before .before .before .before .before .before .before .loop in (
       f .ensures .0 .ready,
       omega (arith, f .ensures .0 .ready .room, l .inv .0 .room, l .inv .1),
       omega (arith, r .kept .1 .0, l .inv .2),
       omega (arith, f .kept .1 .1 .1 .0, l .inv .3),
       omega (arith, r .kept .1 .0, l .inv .4),
       omega (arith, f .kept .1 .1 .1 .0, l .inv .5),
-      ⊎-elim (λ w. omega arith) (λ w. omega arith) (c .before .if1 .came),
+      ⊎-elim (λ w. omega arith) (λ w. omega arith) (c .before .if2 .came),
     )
 
 finish-requires : tie.Need-finish-requires Inv-loop μ-loop
@@ -60,8 +65,8 @@ finish-requires c κs =
     let l = c .before .before .loop in
     (l .inv .0 .keeps, omega (arith, l .inv .5, l .inv .6))
 
-part-write-all-end-2 : tie.Need-part-write-all-end-2 Inv-loop μ-loop
-part-write-all-end-2 c =
+part-write-all-end-3 : tie.Need-part-write-all-end-3 Inv-loop μ-loop
+part-write-all-end-3 c =
     let f = c .before .before .before .finish in
     let l = c .before .before .before .before .before .before .loop in
     omega (arith, puts-within (omega (arith, l .inv .5, l .inv .6)) (f .kept .1 .0) (f .ensures), f .kept .1 .0)
@@ -75,6 +80,14 @@ run-spec =
     (λ c κs. search needs)
     loop-holds
     (λ c κs. search needs)
+    (λ c. search needs)
+    (λ c. search needs)
+    part-write-all-end
+    (λ c κs. search needs)
+    (λ c. search needs)
+    (λ c. search needs)
+    (λ c. search needs)
+    (λ c. search needs)
     (λ c κs. search needs)
     (λ c. search needs)
     (λ c. search needs)
@@ -82,7 +95,7 @@ run-spec =
     feed-requires
     (λ c. search needs)
     (λ c. search needs)
-    part-write-all-end
+    part-write-all-end-2
     (λ c κs. search needs)
     (λ c. search needs)
     (λ c. search needs)
@@ -94,7 +107,7 @@ run-spec =
     finish-requires
     (λ c. search needs)
     (λ c. search needs)
-    part-write-all-end-2
+    part-write-all-end-3
     (λ c κs. search needs)
     (λ c. search needs)
     (λ c. search needs)
