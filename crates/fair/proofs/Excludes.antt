@@ -1,19 +1,22 @@
--- What the contracts rule out, at one input each: another order of a call's refusals, and stand-ins for a call. Whoever weakens a definition breaks one of
--- these.
-use mathlib.Core.Path.{_≡_, sym, ap, _∙_}
-use mathlib.Core.List.{List, [], _++_}
+-- What the contracts rule out, at one input each: another order of a call's refusals, and stand-ins for a call. A definition that lets one of these in breaks
+-- its lemma.
+use mathlib.Core.Path.{_≡_, refl, sym, ap, _∙_}
+use mathlib.Core.List.{List, [], _∷_, _++_}
+use mathlib.Core.Bool.{_&&_}
 use Prim.Native.Nat.{ℕ}
 use native.Mathlib.Omega.{arith}
 use lib.ListN.{getD, replicate}
 use Rattle.fields.specs.Numbers.{twoIn}
+use Rattle.fields.specs.Tests.{pick}
+use Rattle.ed25519.specs.Ed25519.{accepts}
 use Rattle.refusal.specs.declared.Refusal.the-variants.{SeedOrKey, Table, Length, PastEnd, TooLong, Entries}
 use Rattle.rules.specs.declared.Answer.{Answer}
 use Rattle.rules.specs.declared.Answer.the-variants as answer
 use Rattle.rules.specs.declared.Verdict.{Verdict}
 use Rattle.rules.specs.declared.Verdict.the-variants as verdict
-use Rattle.fair.specs.Entries.{entrySignature}
+use Rattle.fair.specs.Entries.{vouched, entrySignature, fairVerdict}
 use Rattle.fair.specs.Cache.{header, headerBytes, headerIn, wellFormed, headerOf, cleared, movedBody}
-use Rattle.fair.specs.Calls.{Makes, makeOutcome, Moves, moveUnder, moveOutcome, Signs, signUnder, signOutcome, Verifies, verdictOf, verifyOutcome}
+use Rattle.fair.specs.Calls.{Makes, makeOutcome, Moves, moveUnder, moveOutcome, Signs, signUnder, signOutcome, Verifies, VerifyOutcome, verdictOf, verifyOutcome}
 
 -- a cache of two entries at step t, every byte of them x
 unfoldable pub plain : ℕ → ℕ → List ℕ
@@ -46,6 +49,19 @@ unfolding plain headerBytes signOutcome signUnder headerOf wellFormed headerIn t
 not-fixed y p q =
     let e : _≡_ {A = ℕ} 7 8 = ap (λ (d : List ℕ). getD d 0 0) (sym (p .leaves) ∙ q .leaves) in
     omega arith
+
+-- The verdict is Ed25519's on both signatures, each under its key and over its text: none is fixed, and neither is left out.
+pub decided : verifyOutcome 6 (replicate 32 1) 5 [] (replicate 64 2 ++ (replicate 32 3 ++ replicate 64 4)) .answer ≡
+    pick (accepts (replicate 32 1) (5 ∷ 0 ∷ 0 ∷ 0 ∷ replicate 32 3) (replicate 64 2) && accepts (replicate 32 3) [] (replicate 64 4))
+    verdict.Accepted verdict.Rejected
+unfolding verifyOutcome verdictOf fairVerdict vouched
+decided = refl
+
+-- Making zeroes the master seed and the seeds: it leaves none where they were lent.
+pub not-left : {r : Answer} {a ss d k : List ℕ} → Makes 1 (replicate 32 7) (replicate 32 8) (replicate 132 0) (replicate 32 0) r a ss d k
+    → (a ≡ replicate 32 0) × (ss ≡ replicate 32 0)
+unfolding makeOutcome cleared
+not-left m = (m .zeroes-master, m .zeroes-seeds)
 
 -- make: 8 before 2, at both ends; 2 before 4, for the master and for the seeds
 module _ {r : Answer} {a ss d k : List ℕ} where

@@ -1,4 +1,5 @@
--- What the contracts rule out, at one input each: stand-ins for a call, and another order of its refusals. Whoever weakens a definition breaks one of these.
+-- What the contracts rule out, at one input each: stand-ins for a call, and another order of its refusals. A definition that lets one of these in breaks
+-- its lemma; the verdict's are in Verdicts.antt.
 use mathlib.Core.Path.{_≡_, sym, ap, _∙_}
 use mathlib.Core.List.{List, [], _++_}
 use Prim.Native.Nat.{ℕ}

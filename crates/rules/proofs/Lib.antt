@@ -6,6 +6,7 @@ pub mod Bounds
 pub mod Counts
 pub mod Small
 pub mod Excludes
+pub mod Verdicts
 pub mod Machine
 pub mod Parts
 pub mod Bridge
