@@ -1,4 +1,5 @@
--- For each call: no second outcome fits its contract; the outcome is one of those that document 01 lists for the call; and their numbers.
+-- For each call: no second outcome fits its contract (the hash's is beside it); the outcome is one of those that document 01 lists for the call; and their
+-- numbers.
 use mathlib.Core.Path.{_≡_, refl, sym, _∙_}
 use mathlib.Core.List.{List, [], _∷_, map}
 use mathlib.Core.Bool.{Bool, true, false}
@@ -6,7 +7,8 @@ use Prim.Native.Nat.{ℕ}
 use lib.Dec.{ltb, leb, eqb}
 use lib.ListN.{length}
 use Rattle.fields.specs.Tests.{pick}
-use Rattle.blake2b.specs.Calls.{limit}
+use Rattle.blake2b.specs.Calls.{limit, hashOutcome}
+use Rattle.blake2b.specs.Calls as blake2b
 use Rattle.refusal.specs.declared.Refusal.the-variants.{Table}
 use Rattle.rules.specs.Part.{partVerdict}
 use Rattle.rules.specs.Table.{steps, tableSize, signatureSize, headerIn, wellFormed, headerOf}
@@ -16,7 +18,7 @@ use Rattle.rules.specs.Calls.{Reads, KeyOutcome, keyUnder, keyOutcome}
 use Rattle.rules.specs.Calls.{Moves, MoveOutcome, moveUnder, moveOutcome}
 use Rattle.rules.specs.Calls.{Signs, SignOutcome, signUnder, signOutcome}
 use Rattle.rules.specs.Calls.{Verifies, verdictOf, verifyOutcome}
-use Rattle.rules.specs.Listed.{Among, here, there, makeListed, keyListed, moveListed, signListed, verifyListed}
+use Rattle.rules.specs.Listed.{Among, here, there, makeListed, keyListed, moveListed, signListed, verifyListed, hashListed}
 use Rattle.rules.specs.declared.Found.the-variants.{Good, Refused}
 use Rattle.rules.specs.declared.Grown.{Grown}
 use Rattle.rules.specs.declared.Answer.{Answer}
@@ -99,6 +101,10 @@ verify-listed h1 h2 k t m x =
     let key = either (eqb (length x) (signatureSize h1 h2)) size (there (there (here refl))) in
     either (tooHigh h1 h2) (here refl) (either (eqb (length k) 32) key (there (here refl)))
 
+pub hash-listed : (m out : List ℕ) → Among (hashOutcome m out) (hashListed m out)
+unfolding hashOutcome
+hash-listed m out = either (ltb limit (length m)) (here refl) (either (eqb (length out) 32) (there (there (here refl))) (there (here refl)))
+
 -- in document 01's numbers
 pub make-numbers : (h1 h2 : ℕ) (s d : List ℕ) → map (λ (o : MakeOutcome). grownTold (o .answer) .number) (makeListed h1 h2 s d) ≡ 1 ∷ 2 ∷ 4 ∷ 0 ∷ []
 make-numbers h1 h2 s d = refl
@@ -114,3 +120,6 @@ sign-numbers d m out = refl
 
 pub verify-numbers : map verdictNumber verifyListed ≡ 1 ∷ 2 ∷ 4 ∷ 7 ∷ 6 ∷ 100 ∷ 0 ∷ []
 verify-numbers = refl
+
+pub hash-numbers : (m out : List ℕ) → map (λ (o : blake2b.Outcome). blake2b.answerNumber (o .answer)) (hashListed m out) ≡ 7 ∷ 4 ∷ 0 ∷ []
+hash-numbers m out = refl
