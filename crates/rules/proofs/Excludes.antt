@@ -57,6 +57,18 @@ pub not-only-step : (a : Grown) → Moves (plain 0 7) 1 a (plain 1 7) → ⊥
 unfolding plain headerBytes moveOutcome moveUnder headerOf wellFormed headerIn fourIn moveWork movedPart seam movedTree entered zeros
 not-only-step a m = let e : _≡_ {A = ℕ} 7 0 = ap (λ (d : List ℕ). getD d 8 0) (m .leaves) in omega arith
 
+-- The same above step 0, of a table of heights 1 and 1, where the parent's step changes and where it stays: a move grows on every call, not on its first alone.
+unfoldable pub taller : ℕ → ℕ → List ℕ
+taller t x = headerBytes (header 1 1 t) ++ replicate 480 x
+
+pub not-only-step-across : (a : Grown) → Moves (taller 1 7) 2 a (taller 2 7) → ⊥
+unfolding taller headerBytes moveOutcome moveUnder headerOf wellFormed headerIn fourIn moveWork movedPart seam movedTree entered zeros
+not-only-step-across a m = let e : _≡_ {A = ℕ} 7 0 = ap (λ (d : List ℕ). getD d 8 0) (m .leaves) in omega arith
+
+pub not-only-step-within : (a : Grown) → Moves (taller 2 7) 3 a (taller 3 7) → ⊥
+unfolding taller headerBytes moveOutcome moveUnder headerOf wellFormed headerIn fourIn moveWork movedPart seam movedTree entered zeros
+not-only-step-within a m = let e : _≡_ {A = ℕ} 7 0 = ap (λ (d : List ℕ). getD d 328 0) (m .leaves) in omega arith
+
 -- Two tables with other stored signatures sign one message otherwise: no signature is fixed.
 pub not-fixed : (x : List ℕ) {a b : Answer} {d₁ d₂ m₁ m₂ : List ℕ} → Signs (plain 0 7) [] (replicate 256 0) a d₁ m₁ x
     → Signs (plain 0 8) [] (replicate 256 0) b d₂ m₂ x → ⊥
