@@ -5,6 +5,7 @@ pub mod Once
 pub mod Bounds
 pub mod Counts
 pub mod Small
+pub mod Positive
 pub mod Excludes
 pub mod Verdicts
 pub mod Machine

@@ -1,0 +1,56 @@
+-- What a C caller reads from the word that make and move answer: its low half is the number, its high half the count; and where the number is 0, the count
+-- is not.
+use mathlib.Core.Path.{_≡_, refl, sym, ap, _∙_}
+use mathlib.Core.List.{List}
+use Prim.Native.Nat.{ℕ, _+_, _*_, _/_, _%_, _≤_, _<_}
+use native.Mathlib.Omega.{arith}
+use lib.Arith.{digits-div, digits-mod}
+use Rattle.refusal.specs.Numbers.{numberOf}
+use Rattle.refusal.specs.declared.Refusal.{Refusal}
+use Rattle.refusal.specs.declared.Refusal.the-variants.{Height, SeedOrKey, Table, Length, NotLater, PastEnd, TooLong, Entries}
+use Rattle.rules.specs.Answers.{Told, grownTold}
+use Rattle.rules.specs.Calls.{makeOutcome, moveOutcome}
+use Rattle.rules.specs.declared.Grown.{Grown}
+use Rattle.rules.specs.declared.Grown.the-variants.{Done, Refused}
+use Rattle.rules.proofs.Positive.{make-positive, move-positive}
+use Rattle.edge.specs.Edge.{word, EdgeMakes, EdgeMoves}
+
+-- no refusal has the number 0, and all are small
+in-range : (why : Refusal) → (0 < numberOf why) × (numberOf why ≤ 8)
+in-range Height = (omega arith, omega arith)
+in-range SeedOrKey = (omega arith, omega arith)
+in-range Table = (omega arith, omega arith)
+in-range Length = (omega arith, omega arith)
+in-range NotLater = (omega arith, omega arith)
+in-range PastEnd = (omega arith, omega arith)
+in-range TooLong = (omega arith, omega arith)
+in-range Entries = (omega arith, omega arith)
+
+low : (a : Grown) → grownTold a .number < 0x1_0000_0000
+low (Done n) = omega arith
+low (Refused why) = let r = in-range why .1 in omega arith
+
+swapped : (x : Told) → word x ≡ x .count * 0x1_0000_0000 + x .number
+swapped x = omega arith
+
+-- the halves of a word
+module _ {w : ℕ} (a : Grown) (e : w ≡ word (grownTold a)) where
+  pub word-number : w % 0x1_0000_0000 ≡ grownTold a .number
+  word-number = ap (λ (x : ℕ). x % 0x1_0000_0000) (e ∙ swapped (grownTold a)) ∙ digits-mod (grownTold a .count) (low a)
+
+  pub word-count : w / 0x1_0000_0000 ≡ grownTold a .count
+  word-count = ap (λ (x : ℕ). x / 0x1_0000_0000) (e ∙ swapped (grownTold a)) ∙ digits-div (grownTold a .count) (low a)
+
+-- what is done has a count
+counted : (a : Grown) → ((n : ℕ) → a ≡ Done n → 0 < n) → grownTold a .number ≡ 0 → 0 < grownTold a .count
+counted (Done n) f z = f n refl
+counted (Refused why) f z = let r = in-range why .0 in absurd (let q : ⊥ = omega arith in q)
+
+done-counts : {w : ℕ} (a : Grown) → w ≡ word (grownTold a) → ((n : ℕ) → a ≡ Done n → 0 < n) → w % 0x1_0000_0000 ≡ 0 → 0 < w / 0x1_0000_0000
+done-counts a e f z = rw (word-count a e) (counted a f (sym (word-number a e) ∙ z))
+
+pub make-counts : (h1 h2 : ℕ) (s d : List ℕ) {w : ℕ} {s′ d′ : List ℕ} → EdgeMakes h1 h2 s d w s′ d′ → w % 0x1_0000_0000 ≡ 0 → 0 < w / 0x1_0000_0000
+make-counts h1 h2 s d m z = done-counts (makeOutcome h1 h2 s d .answer) (m .answers) (λ n e. make-positive h1 h2 s d e) z
+
+pub move-counts : (d : List ℕ) (t : ℕ) {w : ℕ} {d′ : List ℕ} → EdgeMoves d t w d′ → w % 0x1_0000_0000 ≡ 0 → 0 < w / 0x1_0000_0000
+move-counts d t m z = done-counts (moveOutcome d t .answer) (m .answers) (λ n e. move-positive d t e) z
