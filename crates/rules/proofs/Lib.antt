@@ -13,6 +13,7 @@ pub mod Parts
 pub mod Bridge
 pub mod Straight
 pub mod Holding
+pub mod Growing
 pub mod Vouching
 pub mod Keeping
 pub mod Sizes
