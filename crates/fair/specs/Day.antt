@@ -51,8 +51,7 @@ pub record Erased (d d′ : List ℕ) (t : ℕ) : Type 0 where
 abbrev pub Erases : Type 0
 Erases = (d : List ℕ) (t : ℕ) → moveOutcome d t .answer ≡ answer.Done → Erased d (moveOutcome d t .cache) t
 
--- WHAT A CACHE KNOWS at step t: N, t, and of each step from t on the master's signature, the secret and vk. There is no place for the master seed, nor for
--- a secret of the past.
+-- WHAT A CACHE KNOWS at step t: N, t, and of each step from t on the master's signature, the secret and vk, which is all that `handedFrom` hands over
 pub record Handed : Type 0 where
   pub signed : List ℕ
   pub secret : List ℕ
