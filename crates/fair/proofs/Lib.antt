@@ -3,6 +3,7 @@ pub mod Filling
 pub mod Signatures
 pub mod Outcomes
 pub mod Once
+pub mod Untouched
 pub mod Moving
 pub mod Keeping
 pub mod Excludes

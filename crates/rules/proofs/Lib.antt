@@ -2,6 +2,7 @@ pub mod Sums
 pub mod Headers
 pub mod Steps
 pub mod Once
+pub mod Untouched
 pub mod Bounds
 pub mod Counts
 pub mod Small
