@@ -8,13 +8,14 @@
 #include <stdio.h>
 #include <stdlib.h>
 
-void desk_ed25519_public_key(const uint8_t secret[32], uint8_t out[32]);
-void desk_ed25519_sign(const uint8_t secret[32], const uint8_t *message, size_t message_len, uint8_t out[64]);
+/* 1 answered, 0 not: then what stands in out says nothing. tally is the number that the call is made at. */
+uint32_t desk_ed25519_public_key(uint64_t tally, const uint8_t secret[32], uint8_t out[32]);
+uint32_t desk_ed25519_sign(uint64_t tally, const uint8_t secret[32], const uint8_t *message, size_t message_len, uint8_t out[64]);
 /* 1 accepted, 0 not. */
 uint32_t desk_ed25519_verify(const uint8_t public_key[32], const uint8_t *message, size_t message_len, const uint8_t signature[64]);
 
-/* Ends the process where the library cannot answer: what is proved holds only of right answers.
-   No abort, since a core file would keep the secret, and no exit, since no handler may run over a half-written table. */
+/* Ends the process where the library cannot verify: what is proved holds only of right verdicts.
+   No abort, since a core file would keep the host's secrets, and no exit, since no handler may run in the middle of a call. */
 static inline void stop(const char *why)
 {
     fprintf(stderr, "ed25519: %s\n", why);

@@ -5,12 +5,17 @@
  *
  * Conventions
  *   - A slice is a pointer and a length in bytes. A null pointer goes only with length 0.
- *   - No two slices lent to one call overlap: not seed and table, not table and signature, not any other two.
- *   - Every call answers on every input. A refusal changes nothing that was lent.
+ *   - No two slices lent to one call overlap: not seed and table, not table and signature, not any other two; nor does the tally.
+ *   - Every call answers on every input. A refusal changes nothing that was lent, but for KES_UNANSWERED, which changes the tally.
  *   - Sizes are exact: a table, cache, key or signature one byte too long is refused as one that is too short.
  *   - Nothing is kept between calls. The caller owns all memory; a host stores a table or a cache with its length.
  *   - What a call leaves in dead stack frames, secrets of the past among it, goes by kes_wipe alone.
  *   - One table or cache, one thread at a time.
+ *   - THE TALLY. Ed25519 may stand in a module that drops out. The calls that ask it for public keys and signatures are lent a tally,
+ *     which is not null: each asking is made at its number and makes it one more, answered or not; after 2^64 - 1 comes 0. A call stops
+ *     at the first asking without an answer and gives KES_UNANSWERED: then the tally has gone on and nothing else has changed, and the
+ *     same call may be made again with the tally as it was left. Keep one tally for one module, in one variable, for all calls; begin
+ *     anywhere, never set it back, and share it with no other thread.
  *   - kes_make and kes_move answer a number and a count in one word: take them apart with kes_number and kes_count.
  *     Such a word is never 0 when the call is done, so `if (kes_move(..) == 0)` is always wrong.
  *     The other calls, those of the fair too, answer the number alone.
@@ -42,6 +47,7 @@ enum kes_numbers {
     KES_PAST_END = 6,     /* step at or past kes_steps, or a cache's entries */
     KES_TOO_LONG = 7,     /* message, or bytes fed to the hash, above KES_MESSAGE_MAX */
     KES_ENTRIES = 8,      /* a fair's entries not 1 to KES_FAIR_MAX */
+    KES_UNANSWERED = 9,   /* the module did not answer: only the tally has changed */
     KES_NOT_ACCEPTED = 100 /* verify: well formed, not accepted */
 };
 
@@ -61,7 +67,7 @@ enum kes_numbers {
 
 /* Stack that a caller leaves free below it: what a call may use, with the Ed25519 library, and what kes_wipe clears.
  * Measured (host/test/stack) on 64-bit Arm: under 27,000 bytes with libsodium 1.0.18, under 28,000 with OpenSSL 3.0, of which
- * kes_fair_make keeps 24,576 for what it has asked and not yet written, all public; under 11,000 without the fair. The rest is margin. */
+ * kes_fair_make keeps 24,576 for what it has asked and not yet written, all public; under 14,000 without the fair. The rest is margin. */
 #define KES_STACK 73728
 
 /* Sizes and steps of a key of these heights, 0 where a height is not 0 to 12, of whatever type. */
@@ -86,21 +92,21 @@ static inline uint32_t kes_number(uint64_t answer) { return (uint32_t)answer; }
 static inline uint32_t kes_count(uint64_t answer) { return (uint32_t)(answer >> 32); }
 
 /* Makes a key of 2^(h1+h2) steps from a seed, at step 0, and zeroes the seed.
- * Refuses 1, 2, 4 in this order. The count is that of leaf key pairs grown.
- *     uint64_t made = kes_make(6, 6, seed, sizeof seed, table, kes_table_size(6, 6));
+ * Refuses 1, 2, 4, 9 in this order. The count is that of leaf key pairs grown.
+ *     uint64_t made = kes_make(6, 6, seed, sizeof seed, table, kes_table_size(6, 6), &tally);
  *     if (kes_number(made) != KES_DONE) ... */
-KES_CHECKED uint64_t kes_make(uint64_t h1, uint64_t h2, uint8_t *seed, size_t seed_len, uint8_t *table, size_t table_len);
+KES_CHECKED uint64_t kes_make(uint64_t h1, uint64_t h2, uint8_t *seed, size_t seed_len, uint8_t *table, size_t table_len, uint64_t *tally);
 
 /* Reads the verification key, which is the same at every step. Refuses 3, 4. */
 KES_CHECKED uint32_t kes_read_key(const uint8_t *table, size_t table_len, uint8_t *key, size_t key_len);
 
-/* Moves a key to a later step; the steps before it can never be signed again. Refuses 3, 6, 5.
- *     uint64_t moved = kes_move(table, table_len, now);
+/* Moves a key to a later step; the steps before it can never be signed again. Refuses 3, 6, 5, 9.
+ *     uint64_t moved = kes_move(table, table_len, now, &tally);
  *     if (kes_number(moved) == KES_DONE) ... kes_count(moved) key pairs were grown */
-KES_CHECKED uint64_t kes_move(uint8_t *table, size_t table_len, uint64_t step);
+KES_CHECKED uint64_t kes_move(uint8_t *table, size_t table_len, uint64_t step, uint64_t *tally);
 
-/* Signs a message at the table's step. Refuses 3, 7, 4. */
-KES_CHECKED uint32_t kes_sign(const uint8_t *table, size_t table_len, const uint8_t *message, size_t message_len, uint8_t *signature, size_t signature_len);
+/* Signs a message at the table's step. Refuses 3, 7, 4, 9. */
+KES_CHECKED uint32_t kes_sign(const uint8_t *table, size_t table_len, const uint8_t *message, size_t message_len, uint8_t *signature, size_t signature_len, uint64_t *tally);
 
 /* Verifies a signature over a message at a step. Answers KES_DONE or KES_NOT_ACCEPTED; refuses 1, 2, 4, 7, 6. */
 KES_CHECKED uint32_t kes_verify(uint64_t h1, uint64_t h2, const uint8_t *key, size_t key_len, uint64_t step, const uint8_t *message, size_t message_len, const uint8_t *signature, size_t signature_len);
@@ -112,15 +118,15 @@ KES_CHECKED uint32_t kes_hash(const uint8_t *message, size_t message_len, uint8_
  * verifies all of them and says nothing of a desk: docs/HOST.md tells how a desk's own key vouches for it. */
 
 /* Makes a cache of n entries at step 0 from a master seed of 32 bytes and n seeds of 32 bytes, one behind the other; writes the
- * master's public key to key, and zeroes master and seeds. Refuses 8, 2, 4. */
-KES_CHECKED uint32_t kes_fair_make(uint64_t n, uint8_t *master, size_t master_len, uint8_t *seeds, size_t seeds_len, uint8_t *cache, size_t cache_len, uint8_t *key, size_t key_len);
+ * master's public key to key, and zeroes master and seeds. Refuses 8, 2, 4, 9. */
+KES_CHECKED uint32_t kes_fair_make(uint64_t n, uint8_t *master, size_t master_len, uint8_t *seeds, size_t seeds_len, uint8_t *cache, size_t cache_len, uint8_t *key, size_t key_len, uint64_t *tally);
 
 /* Moves a cache to a later step and zeroes every entry before it. The last step is n - 1: a day ends when the host destroys the
  * cache. Refuses 3, 6, 5. */
 KES_CHECKED uint32_t kes_fair_move(uint8_t *cache, size_t cache_len, uint64_t step);
 
-/* Signs a message at the cache's step, into KES_FAIR_SIGNATURE_SIZE bytes. Refuses 3, 7, 4. */
-KES_CHECKED uint32_t kes_fair_sign(const uint8_t *cache, size_t cache_len, const uint8_t *message, size_t message_len, uint8_t *signature, size_t signature_len);
+/* Signs a message at the cache's step, into KES_FAIR_SIGNATURE_SIZE bytes. Refuses 3, 7, 4, 9. */
+KES_CHECKED uint32_t kes_fair_sign(const uint8_t *cache, size_t cache_len, const uint8_t *message, size_t message_len, uint8_t *signature, size_t signature_len, uint64_t *tally);
 
 /* Verifies a signature over a message at a step of a fair of n entries. Answers KES_DONE or KES_NOT_ACCEPTED; refuses 8, 2, 4, 7, 6. */
 KES_CHECKED uint32_t kes_fair_verify(uint64_t n, const uint8_t *key, size_t key_len, uint64_t step, const uint8_t *message, size_t message_len, const uint8_t *signature, size_t signature_len);

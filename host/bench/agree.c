@@ -1,5 +1,5 @@
 /* agree [KEYS]: lives of random keys and of random fairs' caches, in the proved library and in its plain peer. Every answer and every byte
- * that is left must be the same, on good requests and on spoiled ones. Always the same lives. */
+ * that is left must be the same, on good requests and on spoiled ones, some of which the module does not answer. Always the same lives. */
 #include <stdio.h>
 #include <stdlib.h>
 #include <string.h>
@@ -15,13 +15,15 @@ static const char *const names[CALLS] = {"make", "read key", "move", "sign", "ve
 
 /* A call's numbers and lengths, and the bytes lent, each buffer with room for one byte too many. */
 struct request {
-    uint64_t h1, h2, step, n;
+    uint64_t h1, h2, step, n, tally;
     size_t seed_len, table_len, key_len, message_len, signature_len, seeds_len, cache_len;
     uint8_t seed[KES_SEED_SIZE + 1], table[KES_TABLE_MAX + 1], key[KES_KEY_SIZE + 1], message[KES_MESSAGE_MAX + 1],
         signature[KES_SIGNATURE_MAX + 1], seeds[KES_FAIR_SEEDS_SIZE(KES_FAIR_MAX) + 1], cache[KES_FAIR_CACHE_MAX + 1];
 };
 
 static struct request lent;
+/* A number n is not answered where n % every is 0; every is 0 where all are. */
+static uint64_t every;
 static unsigned long seen[KES_NOT_ACCEPTED + 1];
 
 /* SplitMix64: draws that are the same everywhere. */
@@ -41,12 +43,30 @@ static void draw_bytes(uint8_t *bytes, size_t len)
         bytes[i] = (uint8_t)draw(256);
 }
 
+/* The linker puts these before the adapter's functions, so that either side can be left without an answer. */
+uint32_t __real_desk_ed25519_public_key(uint64_t number, const uint8_t *secret, uint8_t *out);
+uint32_t __real_desk_ed25519_sign(uint64_t number, const uint8_t *secret, const uint8_t *message, size_t len, uint8_t *out);
+uint32_t __wrap_desk_ed25519_public_key(uint64_t number, const uint8_t *secret, uint8_t *out);
+uint32_t __wrap_desk_ed25519_sign(uint64_t number, const uint8_t *secret, const uint8_t *message, size_t len, uint8_t *out);
+
+static int answered(uint64_t number) { return every == 0 || number % every != 0; }
+
+uint32_t __wrap_desk_ed25519_public_key(uint64_t number, const uint8_t *secret, uint8_t *out)
+{
+    return answered(number) ? __real_desk_ed25519_public_key(number, secret, out) : 0;
+}
+
+uint32_t __wrap_desk_ed25519_sign(uint64_t number, const uint8_t *secret, const uint8_t *message, size_t len, uint8_t *out)
+{
+    return answered(number) ? __real_desk_ed25519_sign(number, secret, message, len, out) : 0;
+}
+
 static uint64_t ask_fair(const struct fair *f, int call, struct request *r)
 {
     switch (call) {
-    case FAIR_MAKE: return f->make(r->n, r->seed, r->seed_len, r->seeds, r->seeds_len, r->cache, r->cache_len, r->key, r->key_len);
+    case FAIR_MAKE: return f->make(r->n, r->seed, r->seed_len, r->seeds, r->seeds_len, r->cache, r->cache_len, r->key, r->key_len, &r->tally);
     case FAIR_MOVE: return f->move(r->cache, r->cache_len, r->step);
-    case FAIR_SIGN: return f->sign(r->cache, r->cache_len, r->message, r->message_len, r->signature, r->signature_len);
+    case FAIR_SIGN: return f->sign(r->cache, r->cache_len, r->message, r->message_len, r->signature, r->signature_len, &r->tally);
     default: return f->verify(r->n, r->key, r->key_len, r->step, r->message, r->message_len, r->signature, r->signature_len);
     }
 }
@@ -56,10 +76,10 @@ static uint64_t ask(const struct scheme *s, const struct fair *f, int call, stru
     if (call >= KEY_CALLS)
         return ask_fair(f, call, r);
     switch (call) {
-    case MAKE: return s->make(r->h1, r->h2, r->seed, r->seed_len, r->table, r->table_len);
+    case MAKE: return s->make(r->h1, r->h2, r->seed, r->seed_len, r->table, r->table_len, &r->tally);
     case READ_KEY: return s->read_key(r->table, r->table_len, r->key, r->key_len);
-    case MOVE: return s->move(r->table, r->table_len, r->step);
-    case SIGN: return s->sign(r->table, r->table_len, r->message, r->message_len, r->signature, r->signature_len);
+    case MOVE: return s->move(r->table, r->table_len, r->step, &r->tally);
+    case SIGN: return s->sign(r->table, r->table_len, r->message, r->message_len, r->signature, r->signature_len, &r->tally);
     default:
         return s->verify(r->h1, r->h2, r->key, r->key_len, r->step, r->message, r->message_len, r->signature, r->signature_len);
     }
@@ -110,9 +130,15 @@ static void spoiled(int times, int first, int calls)
             lent.step += draw(kes_steps(lent.h1, lent.h2) - lent.step);
         if (call == FAIR_MOVE)
             lent.step += draw(lent.n - lent.step);
-        spoil();
+        if (draw(4) == 0) {
+            every = 1 + draw(12);
+            lent.tally = UINT64_MAX - draw(24);
+        } else {
+            spoil();
+        }
         both(call);
         lent = good;
+        every = 0;
     }
 }
 
@@ -228,7 +254,7 @@ int main(int argc, char **argv)
     for (i = 0; i <= KES_NOT_ACCEPTED; i++)
         if (seen[i] != 0)
             printf("agree: library and plain C both answer %d: %lu times\n", i, seen[i]);
-        else if (i <= KES_ENTRIES || i == KES_NOT_ACCEPTED) {
+        else if (i <= KES_UNANSWERED || i == KES_NOT_ACCEPTED) {
             fprintf(stderr, "agree: no request was answered %d\n", i);
             return 1;
         }

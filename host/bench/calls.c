@@ -26,19 +26,20 @@ static const uint8_t first_seed[KES_SEED_SIZE] = "a race may take a fixed seed..
 
 static struct key keys[HEIGHTS];
 static uint8_t seed[KES_SEED_SIZE], table[KES_TABLE_MAX], signature[KES_SIGNATURE_MAX];
+static uint64_t tally;
 
 static const struct scheme *scheme_of(enum racer racer) { return racer == PLAIN ? &plain : &library; }
 
 static uint64_t make(enum racer racer, const void *of)
 {
     const struct key *k = of;
-    return scheme_of(racer)->make(k->h1, k->h2, seed, sizeof seed, table, k->table_len);
+    return scheme_of(racer)->make(k->h1, k->h2, seed, sizeof seed, table, k->table_len, &tally);
 }
 
 static uint64_t step(enum racer racer, const void *of)
 {
     const struct key *k = of;
-    return scheme_of(racer)->move(table, k->table_len, 1);
+    return scheme_of(racer)->move(table, k->table_len, 1, &tally);
 }
 
 /* The worst move, by the rules and in this library: it parts at the parent's top bit, which grows half the parent and a whole child,
@@ -46,13 +47,13 @@ static uint64_t step(enum racer racer, const void *of)
 static uint64_t leap(enum racer racer, const void *of)
 {
     const struct key *k = of;
-    return scheme_of(racer)->move(table, k->table_len, kes_steps(k->h1, k->h2) - 1);
+    return scheme_of(racer)->move(table, k->table_len, kes_steps(k->h1, k->h2) - 1, &tally);
 }
 
 static uint64_t sign(enum racer racer, const void *of)
 {
     const struct key *k = of;
-    return scheme_of(racer)->sign(table, k->table_len, message, sizeof message, signature, k->signature_len);
+    return scheme_of(racer)->sign(table, k->table_len, message, sizeof message, signature, k->signature_len, &tally);
 }
 
 static uint64_t verify(enum racer racer, const void *of)

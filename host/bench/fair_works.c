@@ -19,6 +19,7 @@ static const uint8_t message[27] = "111122223333444412345250000";
 
 static struct cache caches[CACHES] = {{.n = 24}, {.n = KES_FAIR_MAX}};
 static uint8_t master[KES_SEED_SIZE], seeds[KES_FAIR_SEEDS_SIZE(KES_FAIR_MAX)], lent[KES_FAIR_CACHE_MAX], key[KES_KEY_SIZE], signature[KES_FAIR_SIGNATURE_SIZE];
+static uint64_t tally;
 
 static void lay_out_seeds(const void *of)
 {
@@ -43,13 +44,13 @@ static const struct fair *fair_of(enum racer racer) { return racer == PLAIN ? &p
 static uint64_t make(enum racer racer, const void *of)
 {
     const struct cache *c = of;
-    return fair_of(racer)->make(c->n, master, sizeof master, seeds, c->seeds_len, lent, c->cache_len, key, sizeof key);
+    return fair_of(racer)->make(c->n, master, sizeof master, seeds, c->seeds_len, lent, c->cache_len, key, sizeof key, &tally);
 }
 
 static uint64_t sign(enum racer racer, const void *of)
 {
     const struct cache *c = of;
-    return fair_of(racer)->sign(c->cache, c->cache_len, message, sizeof message, signature, sizeof signature);
+    return fair_of(racer)->sign(c->cache, c->cache_len, message, sizeof message, signature, sizeof signature, &tally);
 }
 
 static uint64_t verify(enum racer racer, const void *of)

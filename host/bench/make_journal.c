@@ -8,6 +8,7 @@
 enum { H1 = 6, H2 = 6, MESSAGE_MAX = 64 };
 
 static uint8_t table[KES_TABLE_SIZE(H1, H2)], key[KES_KEY_SIZE], signature[KES_SIGNATURE_SIZE(H1, H2)];
+static uint64_t tally;
 
 static void must(int fine, const char *why)
 {
@@ -28,7 +29,7 @@ static void print_hex(const uint8_t *bytes, size_t len)
 static void begin(void)
 {
     uint8_t seed[KES_SEED_SIZE] = "a race may take a fixed seed...";
-    must(kes_number(kes_make(H1, H2, seed, sizeof seed, table, sizeof table)) == KES_DONE, "no key is made");
+    must(kes_number(kes_make(H1, H2, seed, sizeof seed, table, sizeof table, &tally)) == KES_DONE, "no key is made");
     must(kes_read_key(table, sizeof table, key, sizeof key) == KES_DONE, "no key is read");
     printf("kes\t");
     print_hex(key, sizeof key);
@@ -39,7 +40,7 @@ static size_t write_line(unsigned long serial, unsigned long step, char message[
 {
     unsigned long card = serial * 7919 % 10000, amount = 1 + serial * 104729 % 2000000;
     int len = snprintf(message, MESSAGE_MAX, "111122223333%04lu%lu%lu", card, serial, amount);
-    must(kes_sign(table, sizeof table, (uint8_t *)message, (size_t)len, signature, sizeof signature) == KES_DONE, "nothing is signed");
+    must(kes_sign(table, sizeof table, (uint8_t *)message, (size_t)len, signature, sizeof signature, &tally) == KES_DONE, "nothing is signed");
     printf("%lu\t111122223333%04lu\t%lu\t%lu\t", step, card, serial, amount);
     print_hex(signature, sizeof signature);
     return (size_t)len;
@@ -64,7 +65,7 @@ static void write_lines(unsigned long lines, FILE *file)
     char message[MESSAGE_MAX];
     for (serial = 1; serial <= lines; serial++) {
         unsigned long next = (serial - 1) * kes_steps(H1, H2) / lines;
-        must(next == step || kes_number(kes_move(table, sizeof table, next)) == KES_DONE, "the key does not move");
+        must(next == step || kes_number(kes_move(table, sizeof table, next, &tally)) == KES_DONE, "the key does not move");
         step = next;
         write_calls(message, write_line(serial, step, message), step, file);
     }

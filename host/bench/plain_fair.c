@@ -2,6 +2,7 @@
 
 #include <sodium.h>
 
+#include "../../desk/adapter.h"
 #include "kes.h"
 #include "plain_fair.h"
 
@@ -37,32 +38,19 @@ static void vouch(uint64_t step, const uint8_t *vk, uint8_t out[VOUCHED])
     memcpy(out + 4, vk, FIELD);
 }
 
-static void public_key(const uint8_t *secret, uint8_t *vk)
-{
-    uint8_t pair[2 * FIELD];
-    crypto_sign_seed_keypair(vk, pair, secret);
-    sodium_memzero(pair, sizeof pair);
-}
-
-/* The public key is made from the secret, never taken from the cache: with another one a signature would give the secret away. */
-static void sign(const uint8_t *secret, const uint8_t *message, size_t len, uint8_t *out)
-{
-    uint8_t made[FIELD], pair[2 * FIELD];
-    crypto_sign_seed_keypair(made, pair, secret);
-    crypto_sign_detached(out, NULL, message, len, pair);
-    sodium_memzero(pair, sizeof pair);
-}
-
-/* Asks for everything first, into vks and signatures of its own, and only then writes. */
-static void make(size_t n, uint8_t *master, uint8_t *seeds, uint8_t *cache, uint8_t *key)
+/* Asks for everything first, into vks and signatures of its own, and only then writes; answers whether all was answered. */
+static int make(size_t n, uint8_t *master, uint8_t *seeds, uint8_t *cache, uint8_t *key, uint64_t *tally)
 {
     uint8_t signatures[KES_FAIR_MAX][SIGNED], vks[KES_FAIR_MAX][FIELD], text[VOUCHED], masters[FIELD];
     size_t i;
-    public_key(master, masters);
+    if (desk_ed25519_public_key((*tally)++, master, masters) != 1)
+        return 0;
     for (i = 0; i < n; i++) {
-        public_key(seeds + FIELD * i, vks[i]);
+        if (desk_ed25519_public_key((*tally)++, seeds + FIELD * i, vks[i]) != 1)
+            return 0;
         vouch(i, vks[i], text);
-        sign(master, text, sizeof text, signatures[i]);
+        if (desk_ed25519_sign((*tally)++, master, text, sizeof text, signatures[i]) != 1)
+            return 0;
     }
     put_two_bytes(cache, n);
     put_two_bytes(cache + 2, 0);
@@ -75,9 +63,10 @@ static void make(size_t n, uint8_t *master, uint8_t *seeds, uint8_t *cache, uint
     memcpy(key, masters, FIELD);
     sodium_memzero(master, FIELD);
     sodium_memzero(seeds, FIELD * n);
+    return 1;
 }
 
-uint32_t plain_fair_make(uint64_t n, uint8_t *master, size_t master_len, uint8_t *seeds, size_t seeds_len, uint8_t *cache, size_t cache_len, uint8_t *key, size_t key_len)
+uint32_t plain_fair_make(uint64_t n, uint8_t *master, size_t master_len, uint8_t *seeds, size_t seeds_len, uint8_t *cache, size_t cache_len, uint8_t *key, size_t key_len, uint64_t *tally)
 {
     if (!KES_FAIR_FITS(n))
         return KES_ENTRIES;
@@ -85,8 +74,7 @@ uint32_t plain_fair_make(uint64_t n, uint8_t *master, size_t master_len, uint8_t
         return KES_SEED_OR_KEY;
     if (cache_len != kes_fair_cache_size(n) || key_len != KES_KEY_SIZE)
         return KES_LENGTH;
-    make((size_t)n, master, seeds, cache, key);
-    return KES_DONE;
+    return make((size_t)n, master, seeds, cache, key, tally) ? KES_DONE : KES_UNANSWERED;
 }
 
 uint32_t plain_fair_move(uint8_t *cache, size_t cache_len, uint64_t step)
@@ -103,8 +91,9 @@ uint32_t plain_fair_move(uint8_t *cache, size_t cache_len, uint64_t step)
     return KES_DONE;
 }
 
-uint32_t plain_fair_sign(const uint8_t *cache, size_t cache_len, const uint8_t *message, size_t message_len, uint8_t *signature, size_t signature_len)
+uint32_t plain_fair_sign(const uint8_t *cache, size_t cache_len, const uint8_t *message, size_t message_len, uint8_t *signature, size_t signature_len, uint64_t *tally)
 {
+    uint8_t own[SIGNED];
     struct header at;
     const uint8_t *entry;
     if (!read_header(cache, cache_len, &at))
@@ -114,9 +103,11 @@ uint32_t plain_fair_sign(const uint8_t *cache, size_t cache_len, const uint8_t *
     if (signature_len != KES_FAIR_SIGNATURE_SIZE)
         return KES_LENGTH;
     entry = cache + HEADER + ENTRY * at.step;
+    if (desk_ed25519_sign((*tally)++, entry + SECRET_AT, message, message_len, own) != 1)
+        return KES_UNANSWERED;
     memcpy(signature, entry, SIGNED);
     memcpy(signature + SIGNED, entry + VK_AT, FIELD);
-    sign(entry + SECRET_AT, message, message_len, signature + SIGNED + FIELD);
+    memcpy(signature + SIGNED + FIELD, own, SIGNED);
     return KES_DONE;
 }
 

@@ -2,6 +2,7 @@
 
 #include <sodium.h>
 
+#include "../../desk/adapter.h"
 #include "kes.h"
 #include "plain_kes.h"
 
@@ -32,50 +33,51 @@ static void side(uint8_t which, const uint8_t *seed, uint8_t *out)
     hash(bytes, sizeof bytes, out);
 }
 
-static void public_key(const uint8_t *secret, uint8_t *vk)
-{
-    uint8_t pair[2 * NODE];
-    crypto_sign_seed_keypair(vk, pair, secret);
-    sodium_memzero(pair, sizeof pair);
-}
+/* Below, what grows or signs answers whether every asking was answered; where one was not, what it wrote is worthless. */
 
-static void subtree_hash(const uint8_t *seed, size_t h, uint8_t *out)
+static int subtree_hash(const uint8_t *seed, size_t h, uint8_t *out, uint64_t *tally)
 {
     uint8_t below[NODE], hashes[2 * NODE];
     if (h == 0) {
-        public_key(seed, below);
+        if (desk_ed25519_public_key((*tally)++, seed, below) != 1)
+            return 0;
         hash(below, NODE, out);
-        return;
+        return 1;
     }
     side(0, seed, below);
-    subtree_hash(below, h - 1, hashes);
+    if (!subtree_hash(below, h - 1, hashes, tally))
+        return 0;
     side(1, seed, below);
-    subtree_hash(below, h - 1, hashes + NODE);
+    if (!subtree_hash(below, h - 1, hashes + NODE, tally))
+        return 0;
     hash(hashes, sizeof hashes, out);
+    return 1;
 }
 
 /* Writes the tree that grows from a seed, at step t, and its root. The half beside the path is hashed, the other grown: one pass. */
-static void grow(const uint8_t *seed, size_t h, size_t t, uint8_t *tree, uint8_t *root)
+static int grow(const uint8_t *seed, size_t h, size_t t, uint8_t *tree, uint8_t *root, uint64_t *tally)
 {
     uint8_t left[NODE];
     size_t half = (size_t)1 << h >> 1;
     if (h == 0) {
         memcpy(tree, seed, NODE);
-        public_key(seed, tree + NODE);
+        if (desk_ed25519_public_key((*tally)++, seed, tree + NODE) != 1)
+            return 0;
         hash(tree + NODE, NODE, root);
-        return;
+        return 1;
     }
     side(0, seed, left);
     side(1, seed, tree);
     if (t < half) {
-        grow(left, h - 1, t, tree + LEVEL, tree + NODE);
-        subtree_hash(tree, h - 1, tree + 2 * NODE);
+        if (!grow(left, h - 1, t, tree + LEVEL, tree + NODE, tally) || !subtree_hash(tree, h - 1, tree + 2 * NODE, tally))
+            return 0;
     } else {
-        subtree_hash(left, h - 1, tree + NODE);
-        grow(tree, h - 1, t - half, tree + LEVEL, tree + 2 * NODE);
+        if (!subtree_hash(left, h - 1, tree + NODE, tally) || !grow(tree, h - 1, t - half, tree + LEVEL, tree + 2 * NODE, tally))
+            return 0;
         memset(tree, 0, NODE);
     }
     hash(tree + NODE, 2 * NODE, root);
+    return 1;
 }
 
 static void root_of(const uint8_t *tree, size_t h, uint8_t *root)
@@ -83,30 +85,29 @@ static void root_of(const uint8_t *tree, size_t h, uint8_t *root)
     hash(tree + NODE, h == 0 ? NODE : 2 * NODE, root);
 }
 
-/* Answers the count of the rules, by which the move inside the new half grows t more. */
-static size_t move_tree(uint8_t *tree, size_t h, size_t from, size_t to)
+/* Answers the count of the rules, by which the move inside the new half grows t more, and 0 where an asking was not answered. */
+static size_t move_tree(uint8_t *tree, size_t h, size_t from, size_t to, uint64_t *tally)
 {
     size_t bit = 63 - (size_t)__builtin_clzll(from ^ to), half = (size_t)1 << bit, t = to % half;
     uint8_t *level = tree + LEVEL * (h - 1 - bit), unused[NODE];
-    grow(level, bit, t, level + LEVEL, unused);
+    if (!grow(level, bit, t, level + LEVEL, unused, tally))
+        return 0;
     memset(level, 0, NODE);
     return half + t;
 }
 
-/* The public key is made from the secret, never taken from the table: with another one a signature would give the secret away. */
-static void sum_sign(const uint8_t *tree, size_t h, size_t t, const uint8_t *message, size_t len, uint8_t *out)
+static int sum_sign(const uint8_t *tree, size_t h, size_t t, const uint8_t *message, size_t len, uint8_t *out, uint64_t *tally)
 {
     const uint8_t *leaf = tree + LEVEL * h;
-    uint8_t made[NODE], pair[2 * NODE];
     size_t bit;
-    crypto_sign_seed_keypair(made, pair, leaf);
-    crypto_sign_detached(out + NODE, NULL, message, len, pair);
-    sodium_memzero(pair, sizeof pair);
+    if (desk_ed25519_sign((*tally)++, leaf, message, len, out + NODE) != 1)
+        return 0;
     memcpy(out, leaf + NODE, NODE);
     for (bit = 0; bit < h; bit++) {
         const uint8_t *level = tree + LEVEL * (h - 1 - bit);
         memcpy(out + SIGNED + NODE * bit, level + (t >> bit & 1 ? NODE : 2 * NODE), NODE);
     }
+    return 1;
 }
 
 static int path_fits(const uint8_t *root, size_t h, size_t t, const uint8_t *signature)
@@ -151,19 +152,23 @@ static void put_header(uint8_t *table, size_t h1, size_t h2, size_t step)
 static uint64_t done(size_t count) { return (uint64_t)count << 32 | KES_DONE; }
 
 /* Grows the child of a stored seed, and lets the parent's leaf sign its root for the last time. */
-static void enter(uint8_t *table, size_t h1, size_t t1, const uint8_t *stored, size_t h2, size_t t2)
+static int enter(uint8_t *table, size_t h1, size_t t1, const uint8_t *stored, size_t h2, size_t t2, uint64_t *tally)
 {
     uint8_t seed[NODE], root[NODE], *parent = table + HEADER;
     side(0, stored, seed);
-    grow(seed, h2, t2, table + child_at(h1), root);
+    if (!grow(seed, h2, t2, table + child_at(h1), root, tally))
+        return 0;
     side(1, stored, table + next_at(h1));
-    sum_sign(parent, h1, t1, root, NODE, table + vouched_at(h1));
+    if (!sum_sign(parent, h1, t1, root, NODE, table + vouched_at(h1), tally))
+        return 0;
     memset(parent + LEVEL * h1, 0, NODE);
+    return 1;
 }
 
-uint64_t plain_make(uint64_t h1, uint64_t h2, uint8_t *seed, size_t seed_len, uint8_t *table, size_t table_len)
+/* In a copy, since the table stays where an asking is not answered. */
+uint64_t plain_make(uint64_t h1, uint64_t h2, uint8_t *seed, size_t seed_len, uint8_t *table, size_t table_len, uint64_t *tally)
 {
-    uint8_t parent[NODE], stored[NODE], unused[NODE];
+    uint8_t parent[NODE], stored[NODE], unused[NODE], copy[KES_TABLE_MAX];
     if (!KES_HEIGHTS_FIT(h1, h2))
         return KES_HEIGHT;
     if (seed_len != KES_SEED_SIZE)
@@ -172,9 +177,10 @@ uint64_t plain_make(uint64_t h1, uint64_t h2, uint8_t *seed, size_t seed_len, ui
         return KES_LENGTH;
     side(0, seed, parent);
     side(1, seed, stored);
-    put_header(table, h1, h2, 0);
-    grow(parent, h1, 0, table + HEADER, unused);
-    enter(table, h1, 0, stored, h2, 0);
+    put_header(copy, h1, h2, 0);
+    if (!grow(parent, h1, 0, copy + HEADER, unused, tally) || !enter(copy, h1, 0, stored, h2, 0, tally))
+        return KES_UNANSWERED;
+    memcpy(table, copy, table_len);
     memset(seed, 0, NODE);
     return done(((size_t)1 << h1) + ((size_t)1 << h2));
 }
@@ -191,20 +197,23 @@ uint32_t plain_read_key(const uint8_t *table, size_t table_len, uint8_t *key, si
 }
 
 /* The parent moves, and a new child grows. A parent step that is jumped over still advances the stored seed. */
-static size_t move_parent(uint8_t *table, struct header at, size_t step)
+static size_t move_parent(uint8_t *table, struct header at, size_t step, uint64_t *tally)
 {
     size_t t1 = at.step >> at.h2, new_t1 = step >> at.h2, t2 = step % ((size_t)1 << at.h2), jumped, count;
     uint8_t stored[NODE];
     memcpy(stored, table + next_at(at.h1), NODE);
     for (jumped = t1 + 1; jumped < new_t1; jumped++)
         side(1, stored, stored);
-    count = move_tree(table + HEADER, at.h1, t1, new_t1);
-    enter(table, at.h1, new_t1, stored, at.h2, t2);
+    count = move_tree(table + HEADER, at.h1, t1, new_t1, tally);
+    if (count == 0 || !enter(table, at.h1, new_t1, stored, at.h2, t2, tally))
+        return 0;
     return count + ((size_t)1 << at.h2) + t2;
 }
 
-uint64_t plain_move(uint8_t *table, size_t table_len, uint64_t step)
+/* In a copy too. */
+uint64_t plain_move(uint8_t *table, size_t table_len, uint64_t step, uint64_t *tally)
 {
+    uint8_t copy[KES_TABLE_MAX];
     struct header at;
     size_t wide, count;
     if (!read_header(table, table_len, &at))
@@ -213,17 +222,22 @@ uint64_t plain_move(uint8_t *table, size_t table_len, uint64_t step)
         return KES_PAST_END;
     if (step <= at.step)
         return KES_NOT_LATER;
+    memcpy(copy, table, table_len);
     wide = (size_t)1 << at.h2;
     if (step / wide == at.step / wide)
-        count = move_tree(table + child_at(at.h1), at.h2, at.step % wide, step % wide);
+        count = move_tree(copy + child_at(at.h1), at.h2, at.step % wide, step % wide, tally);
     else
-        count = move_parent(table, at, step);
-    put_header(table, at.h1, at.h2, step);
+        count = move_parent(copy, at, step, tally);
+    if (count == 0)
+        return KES_UNANSWERED;
+    put_header(copy, at.h1, at.h2, step);
+    memcpy(table, copy, table_len);
     return done(count);
 }
 
-uint32_t plain_sign(const uint8_t *table, size_t table_len, const uint8_t *message, size_t message_len, uint8_t *signature, size_t signature_len)
+uint32_t plain_sign(const uint8_t *table, size_t table_len, const uint8_t *message, size_t message_len, uint8_t *signature, size_t signature_len, uint64_t *tally)
 {
+    uint8_t childs[SIGNED + NODE * KES_HEIGHT_MAX];
     struct header at;
     const uint8_t *child;
     if (!read_header(table, table_len, &at))
@@ -233,8 +247,10 @@ uint32_t plain_sign(const uint8_t *table, size_t table_len, const uint8_t *messa
     if (signature_len != kes_signature_size(at.h1, at.h2))
         return KES_LENGTH;
     child = table + child_at(at.h1);
+    if (!sum_sign(child, at.h2, at.step % ((size_t)1 << at.h2), message, message_len, childs, tally))
+        return KES_UNANSWERED;
     memcpy(signature, table + vouched_at(at.h1), sum_size(at.h1));
-    sum_sign(child, at.h2, at.step % ((size_t)1 << at.h2), message, message_len, signature + sum_size(at.h1));
+    memcpy(signature + sum_size(at.h1), childs, sum_size(at.h2));
     root_of(child, at.h2, signature + sum_size(at.h1) + sum_size(at.h2));
     return KES_DONE;
 }

@@ -8,7 +8,8 @@
  * and each step of it waits for the one before. Money is on a chip only if its record is safe. A moved key signs only once it is
  * stored: the stored key is never behind the journal, so no line written after a crash falls back to an earlier step.
  *
- * A call that fails ends the desk. An error thus leaves what a crash leaves, and one repair serves both: desk_open. */
+ * A call that fails ends the desk. An error thus leaves what a crash leaves, and one repair serves both: desk_open. Where the module is
+ * not reached, the desk waits at that very call, and tries it again until it is answered. */
 #include "desk.h"
 
 #include <inttypes.h>
@@ -17,6 +18,7 @@
 #include "files.h"
 #include "lines.h"
 #include "memory.h"
+#include "module.h"
 #include "random.h"
 #include "record.h"
 #include "secret.h"
@@ -67,8 +69,10 @@ static void make_table(uint64_t h1, uint64_t h2)
     uint64_t made;
     random_fill(desk.seed, sizeof desk.seed);
     desk.table_len = kes_table_size(h1, h2);
-    made = kes_make(h1, h2, desk.seed, sizeof desk.seed, desk.table, desk.table_len);
-    kes_wipe();
+    do {
+        made = kes_make(h1, h2, desk.seed, sizeof desk.seed, desk.table, desk.table_len, module_tally());
+        kes_wipe();
+    } while (module_silent(kes_number(made)));
     need(kes_number(made), "kes_make");
     read_registered();
 }
@@ -168,8 +172,11 @@ void desk_open(const char *folder)
 /* What nobody would call good is not stored, and no money follows it. */
 void desk_sign(const char *text, size_t len, uint8_t *signature)
 {
-    uint32_t number = kes_sign(desk.table, desk.table_len, (const uint8_t *)text, len, signature, signature_size(&desk.registered));
-    kes_wipe();
+    uint32_t number;
+    do {
+        number = kes_sign(desk.table, desk.table_len, (const uint8_t *)text, len, signature, signature_size(&desk.registered), module_tally());
+        kes_wipe();
+    } while (module_silent(number));
     need(number, "kes_sign");
     if (!registered_signed(&desk.registered, desk_step(), text, len, signature))
         refuse("a new signature is not good; is the key file damaged?");
@@ -219,8 +226,10 @@ void desk_jump(uint64_t step)
     uint64_t moved;
     if (step <= desk_step())
         return;
-    moved = kes_move(desk.table, desk.table_len, step);
-    kes_wipe();
+    do {
+        moved = kes_move(desk.table, desk.table_len, step, module_tally());
+        kes_wipe();
+    } while (module_silent(kes_number(moved)));
     if (kes_number(moved) == KES_PAST_END)
         refuse("the clock is past the key's last step; make a new key and have it registered");
     need(kes_number(moved), "kes_move");

@@ -11,7 +11,8 @@
  * The cache gets its name last, so where there is a cache, both are done. A sale has a step of its own, so the steps of the fair's
  * sales are 0, 1, 2 and so on, and the cache stands at the next one: a start can tell whether the last sale was shown as done.
  *
- * A call that fails ends the desk, as in desk.c, and the next start repairs what it leaves. */
+ * A call that fails ends the desk, as in desk.c, and the next start repairs what it leaves; one that the module does not answer is tried
+ * again. */
 #include "fair.h"
 
 #include <inttypes.h>
@@ -21,6 +22,7 @@
 #include "files.h"
 #include "lines.h"
 #include "memory.h"
+#include "module.h"
 #include "random.h"
 #include "sale.h"
 #include "secret.h"
@@ -87,8 +89,10 @@ static void make_cache(uint64_t entries)
     random_fill(fair.master, sizeof fair.master);
     random_fill(fair.seeds, seeds_len);
     fair.cache_len = KES_FAIR_CACHE_SIZE(entries);
-    number = kes_fair_make(entries, fair.master, sizeof fair.master, fair.seeds, seeds_len, fair.cache, fair.cache_len, fair.certificate.master, sizeof fair.certificate.master);
-    kes_wipe();
+    do {
+        number = kes_fair_make(entries, fair.master, sizeof fair.master, fair.seeds, seeds_len, fair.cache, fair.cache_len, fair.certificate.master, sizeof fair.certificate.master, module_tally());
+        kes_wipe();
+    } while (module_silent(number));
     need(number, "kes_fair_make");
 }
 
@@ -230,8 +234,11 @@ static void sign(struct sale *sale)
 {
     char message[SALE_MESSAGE_MOST];
     size_t len = sale_message(message, sale, desk_registered());
-    uint32_t number = kes_fair_sign(fair.cache, fair.cache_len, (const uint8_t *)message, len, sale->signature, sizeof sale->signature);
-    kes_wipe();
+    uint32_t number;
+    do {
+        number = kes_fair_sign(fair.cache, fair.cache_len, (const uint8_t *)message, len, sale->signature, sizeof sale->signature, module_tally());
+        kes_wipe();
+    } while (module_silent(number));
     need(number, "kes_fair_sign");
     if (!is_good(sale))
         refuse("a new sale is not good; is the cache damaged?");

@@ -6,29 +6,31 @@
 #include "input.h"
 
 /* The adapters' functions, as host/fuzz/guided renames them. */
-void sodium_public_key(const uint8_t secret[32], uint8_t out[32]);
-void openssl_public_key(const uint8_t secret[32], uint8_t out[32]);
-void sodium_sign(const uint8_t secret[32], const uint8_t *message, size_t len, uint8_t out[64]);
-void openssl_sign(const uint8_t secret[32], const uint8_t *message, size_t len, uint8_t out[64]);
+uint32_t sodium_public_key(uint64_t tally, const uint8_t secret[32], uint8_t out[32]);
+uint32_t openssl_public_key(uint64_t tally, const uint8_t secret[32], uint8_t out[32]);
+uint32_t sodium_sign(uint64_t tally, const uint8_t secret[32], const uint8_t *message, size_t len, uint8_t out[64]);
+uint32_t openssl_sign(uint64_t tally, const uint8_t secret[32], const uint8_t *message, size_t len, uint8_t out[64]);
 uint32_t sodium_verify(const uint8_t key[32], const uint8_t *message, size_t len, const uint8_t signature[64]);
 uint32_t openssl_verify(const uint8_t key[32], const uint8_t *message, size_t len, const uint8_t signature[64]);
 
-void desk_ed25519_public_key(const uint8_t secret[32], uint8_t out[32])
+uint32_t desk_ed25519_public_key(uint64_t tally, const uint8_t secret[32], uint8_t out[32])
 {
     uint8_t other[32];
-    sodium_public_key(secret, out);
-    openssl_public_key(secret, other);
+    if (sodium_public_key(tally, secret, out) != 1 || openssl_public_key(tally, secret, other) != 1)
+        wrong("an adapter makes no public key");
     if (memcmp(out, other, sizeof other) != 0)
         wrong("the adapters make two public keys of one secret");
+    return 1;
 }
 
-void desk_ed25519_sign(const uint8_t secret[32], const uint8_t *message, size_t len, uint8_t out[64])
+uint32_t desk_ed25519_sign(uint64_t tally, const uint8_t secret[32], const uint8_t *message, size_t len, uint8_t out[64])
 {
     uint8_t other[64];
-    sodium_sign(secret, message, len, out);
-    openssl_sign(secret, message, len, other);
+    if (sodium_sign(tally, secret, message, len, out) != 1 || openssl_sign(tally, secret, message, len, other) != 1)
+        wrong("an adapter does not sign");
     if (memcmp(out, other, sizeof other) != 0)
         wrong("the adapters make two signatures");
+    return 1;
 }
 
 /* libsodium refuses keys and first halves that are no points of the full group, and so may differ there (docs/ASSUMPTIONS.md). */

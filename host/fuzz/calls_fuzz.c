@@ -1,5 +1,5 @@
 /* A fuzzer's target: a good call with the input laid over it, made as host/test/lent.h says, over both adapters.
- * The fuzzer cannot see into the library. It sees due(), which says the number that document 01 and CR 3 want, by kes.h's sizes. */
+ * The fuzzer cannot see into the library. It sees due(), which says the number that document 01, CR 3 and CR 4 want, by kes.h's sizes. */
 #include <string.h>
 
 #include "../test/lent.h"
@@ -13,6 +13,7 @@ static uint8_t key[KES_KEY_SIZE], tables[STEPS][KES_TABLE_SIZE(H1, H2)], signatu
 static uint8_t fair_key[KES_KEY_SIZE], caches[N][KES_FAIR_CACHE_SIZE(N)], sales[N][KES_FAIR_SIGNATURE_SIZE];
 static struct request request;
 static struct outcome outcome;
+static uint64_t tally;
 
 static void need(uint64_t answer)
 {
@@ -28,13 +29,13 @@ static void make_fair(void)
 {
     uint8_t master[KES_SEED_SIZE] = {1}, seeds[KES_FAIR_SEEDS_SIZE(N)] = {2};
     size_t i;
-    need(kes_fair_make(N, master, sizeof master, seeds, sizeof seeds, caches[0], sizeof caches[0], fair_key, sizeof fair_key));
+    need(kes_fair_make(N, master, sizeof master, seeds, sizeof seeds, caches[0], sizeof caches[0], fair_key, sizeof fair_key, &tally));
     for (i = 0; i < N; i++) {
         if (i > 0) {
             memcpy(caches[i], caches[i - 1], sizeof caches[i]);
             need(kes_fair_move(caches[i], sizeof caches[i], i));
         }
-        need(kes_fair_sign(caches[i], sizeof caches[i], message, sizeof message, sales[i], sizeof sales[i]));
+        need(kes_fair_sign(caches[i], sizeof caches[i], message, sizeof message, sales[i], sizeof sales[i], &tally));
     }
 }
 
@@ -46,14 +47,14 @@ int LLVMFuzzerInitialize(int *argc, char ***argv)
     (void)argc, (void)argv;
     lend_start();
     make_fair();
-    need(kes_make(H1, H2, seed, sizeof seed, tables[0], sizeof tables[0]));
+    need(kes_make(H1, H2, seed, sizeof seed, tables[0], sizeof tables[0], &tally));
     need(kes_read_key(tables[0], sizeof tables[0], key, sizeof key));
     for (i = 0; i < STEPS; i++) {
         if (i > 0) {
             memcpy(tables[i], tables[i - 1], sizeof tables[i]);
-            need(kes_move(tables[i], sizeof tables[i], i));
+            need(kes_move(tables[i], sizeof tables[i], i, &tally));
         }
-        need(kes_sign(tables[i], sizeof tables[i], message, sizeof message, signatures[i], sizeof signatures[i]));
+        need(kes_sign(tables[i], sizeof tables[i], message, sizeof message, signatures[i], sizeof signatures[i], &tally));
     }
     return 0;
 }
@@ -227,8 +228,8 @@ static uint32_t fair_due(const struct request *r)
     return r->len[2] != KES_FAIR_SIGNATURE_SIZE ? KES_LENGTH : KES_DONE;
 }
 
-/* The number that document 01's table has for a call. */
-static uint32_t due(const struct request *r)
+/* The number that document 01's table has for a call that is answered. */
+static uint32_t due_if_answered(const struct request *r)
 {
     if (r->op >= FAIR_MAKE)
         return fair_due(r);
@@ -245,6 +246,31 @@ static uint32_t due(const struct request *r)
     return r->op == MOVE ? due_to_move(r) : due_to_sign(r);
 }
 
+/* The keys of a half that is entered, where two steps part. */
+static uint64_t half(uint64_t a, uint64_t b) { return (uint64_t)1 << (63 - __builtin_clzll(a ^ b)); }
+
+/* How often a good call asks Ed25519 for a key or a signature. */
+static uint64_t askings(const struct request *r)
+{
+    uint64_t from = step_of(r->bytes[0]), h2 = r->bytes[0][1];
+    switch (r->op) {
+    case MAKE: return ((uint64_t)1 << r->h1) + ((uint64_t)1 << r->h2) + 1;
+    case MOVE: return from >> h2 == r->step >> h2 ? half(from, r->step) : half(from >> h2, r->step >> h2) + ((uint64_t)1 << h2) + 1;
+    case FAIR_MAKE: return 2 * r->h1 + 1;
+    default: return r->op == SIGN || r->op == FAIR_SIGN;
+    }
+}
+
+static uint32_t due(const struct request *r)
+{
+    uint32_t number = due_if_answered(r);
+    uint64_t left = number == KES_DONE ? askings(r) : 0, at;
+    for (at = r->tally; left > 0; left--, at++)
+        if (r->every != 0 && at % r->every == r->silent)
+            return KES_UNANSWERED;
+    return number;
+}
+
 int LLVMFuzzerTestOneInput(const uint8_t *data, size_t size)
 {
     struct input in = {data, size};
@@ -256,6 +282,8 @@ int LLVMFuzzerTestOneInput(const uint8_t *data, size_t size)
     else
         lay_good(op, next(&in) % (op == MOVE ? STEPS - 1 : STEPS));
     request.h1 ^= wide(&in), request.h2 ^= wide(&in), request.step ^= wide(&in);
+    request.tally = 0 - wide(&in), request.every = next(&in) % 16;
+    request.silent = request.every == 0 ? 0 : next(&in) % request.every;
     for (i = 0; i < LENT; i++)
         request.len[i] = off(request.len[i], next(&in));
     while (in.left > 0) {

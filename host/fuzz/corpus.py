@@ -7,7 +7,8 @@ import kes
 import sodium
 from mutate import SMALL_ORDER, above
 
-SCHEME = kes.Scheme(sodium)
+MODULE = kes.Module(sodium)
+SCHEME = kes.Scheme(MODULE)
 
 
 @functools.lru_cache(maxsize=2**10)
@@ -36,7 +37,7 @@ def signature(h1, h2, seed, step, message):
 
 def honest(draw, message):
     secret = bytes([draw.randrange(4)]) * 32
-    return SCHEME.public_key(secret), sodium.sign(secret, message)
+    return MODULE.key_of(secret), sodium.sign(secret, message)
 
 
 def unreduced(draw, message):
@@ -51,7 +52,7 @@ def small_key(draw, message):
 def small_first_half(draw, message):
     """R of small order, and the S that fits it."""
     secret, first = bytes([draw.randrange(4)]) * 32, draw.choice(SMALL_ORDER)
-    vk = SCHEME.public_key(secret)
+    vk = MODULE.key_of(secret)
     s = ed25519.hashed(first, vk, message) * ed25519.expanded(secret)[0] % ed25519.L
     return vk, first + s.to_bytes(32, "little")
 
@@ -64,7 +65,7 @@ def mixed(draw, message):
     """A key with a part of small order, and a signature whose challenge makes that part vanish."""
     secret, part = bytes([draw.randrange(4)]) * 32, ed25519.decoded(draw.choice(SMALL_ORDER[:8]))
     scalar = ed25519.expanded(secret)[0]
-    vk = ed25519.encoded(ed25519.add(ed25519.decoded(SCHEME.public_key(secret)), part))
+    vk = ed25519.encoded(ed25519.add(ed25519.decoded(MODULE.key_of(secret)), part))
     for r in range(1, 200):
         first = ed25519.encoded(ed25519.times(r, ed25519.BASE))
         challenge = ed25519.hashed(first, vk, message) % ed25519.L

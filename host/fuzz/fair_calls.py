@@ -7,7 +7,7 @@ import sodium
 from library import FAIR_MAKE, FAIR_MOVE, FAIR_SIGN, FAIR_VERIFY
 from mutate import edge
 
-FAIR = fair.Fair(sodium)
+FAIR = fair.Fair(corpus.kes.Module(sodium))
 
 
 @functools.lru_cache(maxsize=2**10)

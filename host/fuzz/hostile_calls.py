@@ -16,10 +16,11 @@ import fair_calls
 import kes
 import sodium
 from library import FAIR_MAKE, FAIR_MOVE, FAIR_SIGN, HASH, MAKE, MOST, MOVE, READ_KEY, SIGN, VERIFY, Ended, Library
-from modelled import NAMES, Model, asked, show
+from modelled import NAMES, Model, show
 from mutate import edge, spoiled
 from planted import FAIR, HOSTILE, PLANTED
 from rounds import Different, NoAnswer, main
+from silences import FAIR_SILENCES, SILENCES
 
 SIZES = [0, 1, 31, 32, 33, 127, 128, 129, kes.LONGEST - 1, kes.LONGEST, kes.LONGEST + 1, 2 * kes.LONGEST]
 # key pairs that a case may grow, at 0.1 ms or so each
@@ -161,12 +162,22 @@ def grown(request):
     op, h1, h2, step, (first, *_) = request
     found = kes.read_header(first)
     if op == FAIR_MAKE and fair.fits(h1):
-        return asked(op, h1, h2, step, found)[0]
+        return h1 + 1
     if op == MAKE and max(h1, h2) <= kes.TALLEST:
-        return asked(op, h1, h2, step, found)[0]
+        return 2**h1 + 2**h2
     if op == MOVE and found and found[2] < step < kes.steps(*found[:2]):
-        return asked(op, h1, h2, step, found)[0]
+        h1, h2, now = found
+        if now >> h2 == step >> h2:
+            return 2 ** kes.highest_difference(now, step)
+        return 2 ** kes.highest_difference(now >> h2, step >> h2) + 2**h2
     return 0
+
+
+def some_module(draw):
+    """A tally, mostly near an edge, and the numbers that the module leaves unanswered: mostly none, else one of the next few among them."""
+    tally = (draw.choice([0, 100, 2**32, 2**63, 2**64]) + draw.randrange(-40, 40)) % 2**64 if draw.random() < 0.8 else draw.randrange(2**64)
+    every = 0 if draw.random() < 0.6 else draw.choice([1, 2, 3, 5, 8, 13, 100, 2**32, 2**64 - 1])
+    return tally, every, (tally + draw.randrange(8)) % every if every else 0
 
 
 def hostile(draw):
@@ -178,12 +189,12 @@ def hostile(draw):
         for _ in range(draw.choice([0, 0, 1, 1, 1, 2, 3])):
             spoil(draw, request)
         if grown(request) <= limit:
-            return request
+            return [*request, some_module(draw)]
 
 
 def told(outcome):
     answer, calls, buffers = outcome
-    return f"answer {answer & 0xFFFFFFFF} count {answer >> 32} Ed25519 calls {calls} left " + " ".join(b.hex() or "-" for b in buffers)
+    return f"answer {answer & 0xFFFFFFFF} count {answer >> 32} Ed25519 calls and tally {calls} left " + " ".join(b.hex() or "-" for b in buffers)
 
 
 class Comparison:
@@ -207,5 +218,6 @@ class Comparison:
 if __name__ == "__main__":
     with tempfile.TemporaryDirectory() as folder:
         compared = functools.partial(Comparison, Library(folder))
-        errors = [(error, {"scheme": error}) for error in PLANTED + HOSTILE] + [(error, {"cache": error}) for error in FAIR]
+        errors = [(error, {"scheme": error}) for error in PLANTED + HOSTILE + SILENCES]
+        errors += [(error, {"cache": error}) for error in FAIR + FAIR_SILENCES]
         main(__file__, compared, {error.__doc__.rstrip("."): functools.partial(compared, **planted) for error, planted in errors})

@@ -1,11 +1,9 @@
-"""The fair-day cache, written a second time from the text of CR 3, sharing no code: the other side of every comparison.
+"""The fair-day cache, written a second time from the text of requests 3 and 4, sharing no code: the other side of every comparison.
 
 The calls take bytearrays and write to them as the ticket says, so that what stands in them afterwards is part of the answer.
 Each rule is a method of its own: a test that plants an error overrides one.
 """
-from kes import DONE, LENGTH, LONGEST, NOT_ACCEPTED, NOT_LATER, PAST_END, SEED_OR_KEY, TABLE, TOO_LONG, cut
-
-ENTRIES = 8
+from kes import DONE, ENTRIES, LENGTH, LONGEST, NOT_ACCEPTED, NOT_LATER, PAST_END, SEED_OR_KEY, TABLE, TOO_LONG, UNANSWERED, asking, cut
 
 MOST = 256
 ENTRY = 128
@@ -40,18 +38,18 @@ def entry_at(cache, step):
 
 
 class Fair:
-    """The linear scheme over the three outside calls of ed: public_key, sign, verify."""
+    """The linear scheme over a module's calls: public_key, sign, verify."""
 
-    def __init__(self, ed):
-        self.ed = ed
+    def __init__(self, module):
+        self.module = module
 
     def vouched(self, i, vk):
         """What the master signs for entry i."""
         return i.to_bytes(4, "little") + vk
 
     def entry(self, master, i, seed):
-        vk = self.ed.public_key(seed)
-        return self.ed.sign(master, self.vouched(i, vk)) + seed + vk
+        vk = self.module.public_key(seed)
+        return self.module.sign(master, self.vouched(i, vk)) + seed + vk
 
     def made(self, master, seeds):
         """The body of a fresh cache."""
@@ -62,16 +60,18 @@ class Fair:
         master[:] = bytes(len(master))
         seeds[:] = bytes(len(seeds))
 
+    @asking(UNANSWERED)
     def make(self, n, master, seeds, cache, key):
-        """8, 2, 4."""
+        """8, 2, 4, 9."""
         if not fits(n):
             return ENTRIES
         if len(master) != 32 or len(seeds) != 32 * n:
             return SEED_OR_KEY
         if len(cache) != cache_size(n) or len(key) != 32:
             return LENGTH
+        known = self.module.public_key(bytes(master))
         cache[:] = header(n, 0) + self.made(bytes(master), cut(seeds, *[32] * n))
-        key[:] = self.ed.public_key(bytes(master))
+        key[:] = known
         self.spend(master, seeds)
         return DONE
 
@@ -92,8 +92,9 @@ class Fair:
         cache[:] = header(n, step) + self.moved(bytes(cache[4:]), now, step)
         return DONE
 
+    @asking(UNANSWERED)
     def sign(self, cache, message, out):
-        """3, 7, 4."""
+        """3, 7, 4, 9."""
         found = read_header(cache)
         if found is None:
             return TABLE
@@ -102,7 +103,7 @@ class Fair:
         if len(out) != SIGNATURE:
             return LENGTH
         masters, secret, vk = entry_at(cache, found[1])
-        out[:] = masters + vk + self.ed.sign(secret, bytes(message))
+        out[:] = masters + vk + self.module.sign(secret, bytes(message))
         return DONE
 
     def verify(self, n, key, step, message, signature):
@@ -122,4 +123,4 @@ class Fair:
     def verdict(self, key, step, message, signature):
         """Figure 6.1: the master's over the step and vk, then vk's over the message."""
         masters, vk, last = cut(signature, 64, 32, 64)
-        return self.ed.verify(key, self.vouched(step, vk), masters) and self.ed.verify(vk, message, last)
+        return self.module.verify(key, self.vouched(step, vk), masters) and self.module.verify(vk, message, last)

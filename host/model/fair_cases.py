@@ -7,10 +7,15 @@ import sys
 
 import standin
 from fair import SIGNATURE, Fair, cache_size
-from kes import H
+from kes import H, Module
 
 STDOUT = pathlib.Path(__file__).resolve().parents[2] / "crates" / "fair_cases" / "stdout"
-MODEL = Fair(standin)
+# from this tally on the stand-in answers for long; from SILENT - k on the k-th call is not answered
+ANSWERED, SILENT = 1000, 2**32 + 100
+# a make at N = 3 asks seven times
+EDGES = [0, 94, 2**32 - 3, 2**64 - 2**32 + 96, 2**64 - 7, 2**64 - 3, 2**64 - 1]
+MODULE = Module(standin, standin.answered, ANSWERED)
+MODEL = Fair(MODULE)
 LONGEST = 32900
 WIDE = 2**64 - 1
 # the bytes of step 1 at N = 3 that are signed and verified
@@ -29,9 +34,14 @@ def chained(data):
     return chain.hex()
 
 
-def make(n, master, seeds, cache, key):
-    """What making answers at these lengths, and what it leaves. Seeds rise; what is written to is nines."""
-    lent = bytearray(range(9, 9 + master)), bytearray(at % 251 for at in range(seeds)), nines(cache), nines(key)
+def lend(master, seeds, cache, key):
+    """Buffers of these lengths. Seeds rise; what is written to is nines."""
+    return bytearray(range(9, 9 + master)), bytearray(at % 251 for at in range(seeds)), nines(cache), nines(key)
+
+
+def make(n, *lengths):
+    """What making answers at these lengths, and what it leaves."""
+    lent = lend(*lengths)
     return MODEL.make(n, *lent), lent
 
 
@@ -116,10 +126,39 @@ def verdicts():
     yield " ".join(["spoiled", *(verify(signature=other) for other in spoiled)])
 
 
+def twice(name, tally, call, *lent):
+    """A call from this tally on, and the same again with the tally left: each time its answer, the tally, and what was lent."""
+    MODULE.tally, words = tally, [name, str(tally)]
+    for _ in range(2):
+        words += [str(call()), str(MODULE.tally), *map(chained, lent)]
+    return " ".join(words)
+
+
+def unanswered_make(n, tally):
+    lent = lend(32, 32 * n, cache_size(n), 32)
+    return twice(f"unanswered {n}", tally, lambda: MODEL.make(n, *lent), *lent)
+
+
+def unanswered_sign(tally):
+    MODULE.tally = ANSWERED
+    cache, signature = fresh()[0], nines(SIGNATURE)
+    return twice("unsigned", tally, lambda: MODEL.sign(cache, b"top-up", signature), signature)
+
+
+def unanswered():
+    """Every place at which making a cache of three entries or signing with it can fail, and the edges of the tally."""
+    for tally in [SILENT - k for k in range(8)] + EDGES:
+        yield unanswered_make(3, tally)
+    # silent at 100, after the tally has begun anew
+    yield unanswered_make(256, 2**64 - 300)
+    for tally in (SILENT, SILENT - 1, 2**64 - 1):
+        yield unanswered_sign(tally)
+
+
 def lines():
     for n, stride in [(1, 1), (3, 1), (256, 51)]:
         yield from day(n, stride)
-    for group in (all_moves, makes, caches, verdicts):
+    for group in (all_moves, makes, caches, verdicts, unanswered):
         yield from group()
 
 

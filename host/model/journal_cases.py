@@ -13,11 +13,11 @@ import sys
 import standin
 from desk import Desk
 from journal import LONGEST_LINE, Judge
-from kes import Scheme, steps
+from kes import Module, Scheme, steps
 from misread import MISREADINGS
 
 FOLDER = pathlib.Path(__file__).resolve().parents[2] / "crates" / "journal_cases"
-SCHEME = Scheme(standin)
+SCHEME = Scheme(Module(standin))
 # desks whose keys have 1, 8, 4,096 and 2^24 steps
 ONE, EIGHT, SHORT, TALLEST = (Desk(SCHEME, h1, h2, range(32)) for h1, h2 in ((0, 0), (1, 2), (6, 6), (12, 12)))
 STEP, CARD, SERIAL, AMOUNT, SIGNATURE = range(5)

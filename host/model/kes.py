@@ -1,4 +1,4 @@
-"""The evolving key, written a second time from the text of document 01, sharing no code: the other side of every comparison.
+"""The evolving key, written a second time from the text of document 01 and request 4, sharing no code: the other side of every comparison.
 
 Inside, a tree, a signature and a table are bytes. The calls take bytearrays and write to them as 01 says, so that what stands in
 them afterwards is part of the answer. Each rule is a method of its own: a test that plants an error overrides one.
@@ -6,7 +6,7 @@ them afterwards is part of the answer. Each rule is a method of its own: a test 
 import functools
 import hashlib
 
-DONE, HEIGHT, SEED_OR_KEY, TABLE, LENGTH, NOT_LATER, PAST_END, TOO_LONG = range(8)
+DONE, HEIGHT, SEED_OR_KEY, TABLE, LENGTH, NOT_LATER, PAST_END, TOO_LONG, ENTRIES, UNANSWERED = range(10)
 NOT_ACCEPTED = 100
 
 TALLEST = 12
@@ -94,24 +94,68 @@ def hash_call(message, out):
     return DONE
 
 
-class Scheme:
-    """The scheme over the three outside calls of ed: public_key, sign, verify."""
+class Silent(Exception):
+    """A module call that was not answered."""
 
-    def __init__(self, ed):
-        self.ed = ed
+
+class Module:
+    """Request 4: the outside calls of ed in a module that can drop out. A public key and a signature are asked for at the tally, which is
+    then one more; answered says of each number whether the call made at it is answered. Verification always answers."""
+
+    def __init__(self, ed, answered=lambda number: True, tally=0):
+        self.ed, self.answered, self.tally = ed, answered, tally
         # a fixed function of its input, so a key pair need not be made twice
-        self.public_key = functools.lru_cache(maxsize=2**16)(ed.public_key)
+        self.key_of = functools.lru_cache(maxsize=2**16)(ed.public_key)
+
+    def ask(self):
+        number, self.tally = self.tally, (self.tally + 1) % 2**64
+        if not self.answered(number):
+            raise Silent
+
+    def public_key(self, secret):
+        self.ask()
+        return self.key_of(secret)
+
+    def sign(self, secret, message):
+        self.ask()
+        return self.ed.sign(secret, message)
+
+    def verify(self, key, message, signature):
+        return self.ed.verify(key, message, signature)
+
+
+def asking(silence):
+    """A call that asks the module, and ends with this answer at the first silence. It writes when it has asked for the last time."""
+
+    def over(call):
+        @functools.wraps(call)
+        def asked(*lent):
+            try:
+                return call(*lent)
+            except Silent:
+                return silence
+
+        return asked
+
+    return over
+
+
+class Scheme:
+    """The scheme over a module's calls: public_key, sign, verify."""
+
+    def __init__(self, module):
+        self.module = module
 
     # One tree: rules 2 to 6.
 
     def leaf(self, seed):
         """Rule 2: the leaf's secret is the seed, vk its public key."""
-        return seed + self.public_key(seed)
+        return seed + self.module.public_key(seed)
 
     def subtree_hash(self, seed, h):
         """Rule 3."""
         if h == 0:
-            return H(self.public_key(seed))
+            return H(self.module.public_key(seed))
         return H(self.subtree_hash(left(seed), h - 1) + self.subtree_hash(right(seed), h - 1))
 
     def spent(self, seed):
@@ -119,14 +163,15 @@ class Scheme:
         return ZEROS
 
     def tree_at(self, seed, h, t):
-        """Rule 4: the tree at step t, root first."""
+        """Rule 4: the tree at step t, root first. Each leaf's key is asked for once."""
         if h == 0:
             return self.leaf(seed)
-        hashes = self.subtree_hash(left(seed), h - 1) + self.subtree_hash(right(seed), h - 1)
         goes_right, below = divmod(t, 2 ** (h - 1))
+        path = self.tree_at(right(seed) if goes_right else left(seed), h - 1, below)
+        inside, beside = self.root(path, h - 1), self.subtree_hash(left(seed) if goes_right else right(seed), h - 1)
         if goes_right:
-            return self.spent(right(seed)) + hashes + self.tree_at(right(seed), h - 1, below)
-        return right(seed) + hashes + self.tree_at(left(seed), h - 1, below)
+            return self.spent(right(seed)) + beside + inside + path
+        return right(seed) + inside + beside + path
 
     def root(self, tree, h):
         """Rule 3, as stored: from the top level's two hashes, at height 0 from vk."""
@@ -149,7 +194,7 @@ class Scheme:
     def sum_signature(self, tree, h, t, message):
         """Rule 6."""
         secret, vk = cut(tree[96 * h :], 32, 32)
-        return vk + self.ed.sign(secret, message) + b"".join(self.witnesses(tree, h, t))
+        return vk + self.module.sign(secret, message) + b"".join(self.witnesses(tree, h, t))
 
     def climb(self, x, witnesses, t):
         """Rule 6: x on the left where that bit of t is 0, lowest bit first."""
@@ -166,7 +211,7 @@ class Scheme:
         return self.climb(H(vk), witnesses, t) == root
 
     def leaf_accepts(self, message, signature):
-        return self.ed.verify(signature[:32], message, signature[32:96])
+        return self.module.verify(signature[:32], message, signature[32:96])
 
     def count_new(self, h):
         return 2**h
@@ -196,8 +241,9 @@ class Scheme:
         signature = self.sum_signature(parent, h1, t1, self.root(child, h2))
         return self.without_secret(parent, h1) + signature + next_seed + child
 
+    @asking((UNANSWERED, 0))
     def make(self, h1, h2, seed, table):
-        """1, 2, 4. Answers the number and the count; a made key zeroes the lent seed."""
+        """1, 2, 4, 9. Answers the number and the count; a made key zeroes the lent seed."""
         if max(h1, h2) > TALLEST:
             return HEIGHT, 0
         if len(seed) != 32:
@@ -221,8 +267,9 @@ class Scheme:
         key[:] = self.root(read_body(table, h1, h2)[0], h1)
         return DONE
 
+    @asking((UNANSWERED, 0))
     def move(self, table, step):
-        """3, 6, 5. Answers the number and the count."""
+        """3, 6, 5, 9. Answers the number and the count."""
         found = read_header(table)
         if found is None:
             return TABLE, 0
@@ -251,8 +298,9 @@ class Scheme:
         count = self.count_move(t1, new_t1) + self.count_new(h2) + self.count_move(0, new_t2)
         return self.body(h1, new_t1, parent, next_seed, h2, child), count
 
+    @asking(UNANSWERED)
     def sign(self, table, message, out):
-        """3, 7, 4."""
+        """3, 7, 4, 9."""
         found = read_header(table)
         if found is None:
             return TABLE

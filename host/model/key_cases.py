@@ -5,11 +5,17 @@ import pathlib
 import sys
 
 import standin
-from kes import H, Scheme, signature_size, steps, table_size
+from kes import H, Module, Scheme, signature_size, steps, table_size
 
 STDOUT = pathlib.Path(__file__).resolve().parents[2] / "crates" / "key_cases" / "stdout"
 HEIGHTS = [(2, 2), (1, 0), (0, 1), (3, 2)]
-SCHEME = Scheme(standin)
+# from this tally on the stand-in answers for long; from SILENT - k on the k-th call is not answered
+ANSWERED, SILENT = 1000, 2**32 + 100
+# a make at (2, 2) asks nine times
+EDGES = [0, 92, 2**32 - 4, 2**64 - 2**32 + 96, 2**64 - 9, 2**64 - 4, 2**64 - 1]
+NEXT_AND_ACROSS = [(a, a + 1) for a in range(15)] + [(1, 14)]
+MODULE = Module(standin, standin.answered, ANSWERED)
+SCHEME = Scheme(MODULE)
 
 
 def grown(answer):
@@ -70,6 +76,52 @@ def tallest():
     return " ".join(words + [grown(make(13, 0, table)), grown(make(0, 13, table))])
 
 
+def at(h1, h2, t):
+    """The table of a step, made and moved where the module answers."""
+    MODULE.tally, table = ANSWERED, bytearray(table_size(h1, h2))
+    make(h1, h2, table)
+    SCHEME.move(table, t)
+    return table
+
+
+def twice(tally, call, *lent):
+    """A call from this tally on, and the same again with the tally left: each time its answer, the tally, and what was lent."""
+    MODULE.tally, words = tally, [str(tally)]
+    for _ in range(2):
+        words += [call(), str(MODULE.tally), *(H(data).hex() for data in lent)]
+    return " ".join(words)
+
+
+def make_at(h1, h2, tally):
+    seed, table = bytearray(b"\7" * 32), at(h1, h2, 0)
+    return f"make {h1} {h2} " + twice(tally, lambda: grown(SCHEME.make(h1, h2, seed, table)), seed, table)
+
+
+def move_at(a, b, tally):
+    table = at(2, 2, a)
+    return f"move {a} {b} " + twice(tally, lambda: grown(SCHEME.move(table, b)), table)
+
+
+def sign_at(tally):
+    table, signature = at(2, 2, 5), bytearray(352)
+    SCHEME.sign(table, b"refund", signature)
+    return "sign " + twice(tally, lambda: str(SCHEME.sign(table, b"top-up", signature)), signature)
+
+
+def unanswered():
+    """Every place at which a make, a move or signing can fail, and the edges of the tally."""
+    for tally in [SILENT - k for k in range(10)] + EDGES:
+        yield make_at(2, 2, tally)
+    for a, b in NEXT_AND_ACROSS:
+        for k in range(8):
+            yield move_at(a, b, SILENT - k)
+    yield move_at(7, 8, 2**64 - 3)
+    for tally in (SILENT, SILENT - 1, 2**64 - 1):
+        yield sign_at(tally)
+    # silent at 100, after the tally has begun anew
+    yield make_at(12, 12, 2**64 - 8000)
+
+
 def lines():
     for h1, h2 in HEIGHTS:
         table = bytearray(table_size(h1, h2))
@@ -79,6 +131,7 @@ def lines():
         yield jumps(h1, h2)
     yield tallest()
     yield messages()
+    yield from unanswered()
 
 
 def main():

@@ -7,11 +7,11 @@ import sys
 
 import standin
 from journal import LAST_LINE, Judge
-from kes import Scheme
+from kes import Module, Scheme
 
 CRATES = pathlib.Path(__file__).resolve().parents[2] / "crates"
 STDOUT = CRATES / "ledger_cases" / "stdout"
-JUDGE = Judge(Scheme(standin))
+JUDGE = Judge(Scheme(Module(standin)))
 AT_THE_LAST = b"kes\t0\t0\t" + b"0" * 64 + b"\nx\nx\nx\n"
 
 example = (CRATES / "ledger_cases" / "stdin").read_bytes()

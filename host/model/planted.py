@@ -86,8 +86,8 @@ class BodyJudged(Scheme):
     """A table whose child leaf's secret and vk do not fit is refused with 3."""
 
     def sign(self, table, message, out):
-        leaf = bytes(table[-64:])
-        return TABLE if read_header(table) and self.leaf(leaf[:32]) != leaf else super().sign(table, message, out)
+        secret, vk = bytes(table[-64:-32]), bytes(table[-32:])
+        return TABLE if read_header(table) and self.module.key_of(secret) != vk else super().sign(table, message, out)
 
 
 HOSTILE = [StepCut, LengthFirst, SeedGone, NextSeedGone, BodyJudged]

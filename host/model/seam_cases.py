@@ -5,17 +5,18 @@ import pathlib
 import sys
 
 import standin
-from frames import ask_key, ask_sign, ask_verify, flipped, verdict
+from frames import ask_key, ask_sign, ask_verify, flipped, given, silence, verdict
 
 FOLDER = pathlib.Path(__file__).resolve().parents[2] / "crates" / "ed25519_cases"
 SECRETS = [bytes(32), bytes([255]) * 32, bytes(range(32))]
+TALLIES = [0, 1, 99, 100, 101, 2**32 - 1, 2**32, 2**32 + 99, 2**32 + 100, 2**32 + 101, 2**64 - 2**32 + 100, 2**64 - 1]
 MESSAGES = [b"", b"\0", b"abc", bytes(range(256)), bytes(4095), bytes(i * 7 % 256 for i in range(4096))]
 
 
 def good(secret, message):
     """A signature made and accepted."""
     key, signature = standin.public_key(secret), standin.sign(secret, message)
-    yield ask_sign(secret, message), signature
+    yield ask_sign(secret, message), given(signature)
     yield ask_verify(key, message, signature), verdict(True)
 
 
@@ -30,14 +31,23 @@ def damaged(secret, message):
         yield ask_verify(*case), verdict(standin.verify(*case))
 
 
+def tallied(tally):
+    """Both calls made at a tally."""
+    secret = SECRETS[2]
+    for request, data in [(ask_key(secret, tally), standin.public_key(secret)), (ask_sign(secret, b"abc", tally), standin.sign(secret, b"abc"))]:
+        yield request, given(data, tally) if standin.answered(tally) else silence(tally)
+
+
 def cases():
     for secret in SECRETS + [flipped(SECRETS[2], bit) for bit in (0, 255)]:
-        yield ask_key(secret), standin.public_key(secret)
+        yield ask_key(secret), given(standin.public_key(secret))
     for secret in SECRETS:
         for message in MESSAGES:
             yield from good(secret, message)
     for message in MESSAGES[1:4]:
         yield from damaged(SECRETS[2], message)
+    for tally in TALLIES:
+        yield from tallied(tally)
 
 
 def main():

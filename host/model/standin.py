@@ -4,6 +4,11 @@ MODULUS = 4_294_967_291
 TEXT = b"NOT ED25519 KEY "
 
 
+def answered(number):
+    """Silent at one number in 2^32."""
+    return number % 2**32 != 100
+
+
 def lane(k, data):
     value = 0
     for byte in data:

@@ -6,10 +6,10 @@ import sys
 
 import standin
 from frames import ask_sum, flipped, verdict
-from kes import H, Scheme
+from kes import H, Module, Scheme
 
 FOLDER = pathlib.Path(__file__).resolve().parents[2] / "crates" / "sum_cases"
-MODEL = Scheme(standin)
+MODEL = Scheme(Module(standin))
 SECRET = bytes(range(32))
 LONGEST = bytes(i * 7 % 256 for i in range(4096))
 

@@ -10,7 +10,7 @@ from fair import ENTRY, Fair, cache_size
 from orders import order
 from planted import FAIR
 
-MODEL = Fair(standin)
+MODEL = Fair(kes.Module(standin))
 MASTER = bytes(range(1, 33))
 MESSAGE = b"a sale"
 
@@ -178,7 +178,7 @@ def errors():
     """Each error that looks right accepts its own signatures, and yet is noticed."""
     sound = list(day(MODEL))
     for planted in FAIR:
-        assert list(day(planted(standin))) != sound, planted
+        assert list(day(planted(kes.Module(standin)))) != sound, planted
     return len(FAIR)
 
 

@@ -4,11 +4,11 @@ import itertools
 
 import kes
 import standin
-from kes import Scheme, signature_size, steps, table_size, tree_size
+from kes import Module, Scheme, signature_size, steps, table_size, tree_size
 from orders import order, refused
 from planted import PLANTED
 
-MODEL = Scheme(standin)
+MODEL = Scheme(Module(standin))
 HEIGHTS = [(0, 0), (1, 0), (0, 1), (2, 2), (3, 2)]
 SEED = bytes(range(1, 33))
 MESSAGE = b"1111222233334444" b"1" b"2500"
@@ -223,7 +223,7 @@ def errors():
     """Each error that looks right accepts its own signatures, and yet is noticed."""
     sound = list(day(MODEL))
     for planted in PLANTED:
-        seen = list(day(planted(standin)))
+        seen = list(day(planted(Module(standin))))
         assert all(verdicts[step] == kes.DONE for step, (_, _, verdicts) in zip(DAY, seen))
         assert seen != sound, planted
     return len(PLANTED)

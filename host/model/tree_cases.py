@@ -6,10 +6,13 @@ import pathlib
 import sys
 
 import standin
-from kes import H, ZEROS, Scheme
+from kes import H, ZEROS, Module, Scheme, Silent
 
 STORED = pathlib.Path(__file__).resolve().parents[2] / "crates" / "tree_cases" / "stdout"
 SEED = bytes(range(1, 33))
+# from SILENT - k on the k-th call is not answered
+SILENT = 2**32 + 100
+MODULE = Module(standin, standin.answered, 1000)
 
 
 def flipped(data, at):
@@ -41,15 +44,38 @@ def tallest(scheme):
     return "tallest 2049 %s %s %d" % (H(tree).hex(), scheme.root(tree, 12).hex(), scheme.count_move(0, 2049))
 
 
+def tried(name, tally, work, before):
+    """The tally, whether every call was answered, the tally left, and what work leaves in the place of before."""
+    MODULE.tally = tally
+    try:
+        after, given = work(), 1
+    except Silent:
+        after, given = before, 0
+    return "%s %d %d %d %s" % (name, tally, given, MODULE.tally, H(after).hex())
+
+
+def unanswered(scheme):
+    """Each failing place, at height 2: a tree grown at step 1 over the one at step 3, the tree at step 0 moved to step 3, a signature over another."""
+    first, last = scheme.tree_at(SEED, 2, 0), scheme.tree_at(SEED, 2, 3)
+    other = scheme.sum_signature(first, 2, 0, b"stop")
+    for k in range(5):
+        yield tried("grow", SILENT - k, lambda: scheme.tree_at(SEED, 2, 1), last)
+    for k in range(3):
+        yield tried("move", SILENT - k, lambda: scheme.moved(first, 2, 0, 3), first)
+    for k in range(2):
+        yield tried("sign", SILENT - k, lambda: scheme.sum_signature(first, 2, 0, b"step"), other)
+
+
 def lines(scheme):
     for h in range(5):
         yield from (step(scheme, h, t) for t in range(2**h))
         yield moves(scheme, h)
     yield tallest(scheme)
+    yield from unanswered(scheme)
 
 
 def main():
-    text = "".join(line + "\n" for line in lines(Scheme(standin)))
+    text = "".join(line + "\n" for line in lines(Scheme(MODULE)))
     if sys.argv[1:] != ["--check"]:
         STORED.write_text(text)
     elif STORED.read_text() != text:

@@ -1,6 +1,6 @@
 #!/usr/bin/env python3
-"""Random calls of the C library, good and damaged, byte for byte against the independent model: the answer, the end value of
-every buffer, and how often Ed25519 was asked. Reproducible: calls.py [SEED [CASES]]. Needs desk/build before."""
+"""Random calls of the C library, good and damaged, some of them not answered by the module, byte for byte against the independent model:
+the answer, the end value of every buffer and of the tally, and how often Ed25519 was asked. Reproducible: calls.py [SEED [CASES]]. Needs desk/build before."""
 import random
 import sys
 import tempfile
@@ -28,6 +28,12 @@ class Drawing:
             return data[:at] + bytes([self.draw.randrange(256)]) + data[at + 1 :]
         return self.draw.choice([data[:-1], data + b"\0", b""])
 
+    def module(self):
+        """A tally, mostly near an edge, and the numbers that the module leaves unanswered: mostly none."""
+        near = self.draw.choice([0, 2**32, 2**64]) + self.draw.randrange(-20, 20)
+        every = self.draw.choice([0, 0, 0, 1, 2, 5, 11, 30])
+        return near % 2**64, every, self.draw.randrange(every) if every else 0
+
     def message(self):
         return self.draw.randbytes(self.draw.choice([0, 1, 32, 40, 129, 4096, 4097]))
 
@@ -49,7 +55,7 @@ class Desk(Drawing):
         h1, h2 = self.height(), self.height()
         size = kes.table_size(h1, h2) if max(h1, h2) <= 12 else 264
         seed = self.odd(bytes([self.draw.randrange(8)]) * 32)
-        request = MAKE, h1, h2, 0, [seed, self.odd(bytes(size)), b""]
+        request = MAKE, h1, h2, 0, [seed, self.odd(bytes(size)), b""], self.module()
         answer, _, (_, table, _) = self.model.call(*request)
         if answer & 0xFFFFFFFF == 0:
             self.heights, self.table, self.signed = (h1, h2), table, None
@@ -65,8 +71,8 @@ class Desk(Drawing):
         h1, h2 = self.heights
         if self.draw.random() < 0.1 and max(h1, h2) < 3:
             body = self.draw.randbytes(kes.table_size(h1, h2) - 8)
-            return MOVE, 0, 0, self.step(), [kes.header(h1, h2, self.draw.randrange(kes.steps(h1, h2))) + body, b"", b""]
-        request = MOVE, 0, 0, self.step(), [self.odd(self.table), b"", b""]
+            return MOVE, 0, 0, self.step(), [kes.header(h1, h2, self.draw.randrange(kes.steps(h1, h2))) + body, b"", b""], self.module()
+        request = MOVE, 0, 0, self.step(), [self.odd(self.table), b"", b""], self.module()
         answer, _, (table, _, _) = self.model.call(*request)
         if answer & 0xFFFFFFFF == 0 and request[4][0] == self.table:
             self.table = table
@@ -74,7 +80,7 @@ class Desk(Drawing):
 
     def sign(self):
         size = kes.signature_size(*self.heights)
-        request = SIGN, 0, 0, 0, [self.odd(self.table), self.message(), self.odd(bytes(size))]
+        request = SIGN, 0, 0, 0, [self.odd(self.table), self.message(), self.odd(bytes(size))], self.module()
         answer, _, (table, message, signature) = self.model.call(*request)
         if answer == 0 and table == self.table:
             self.signed = kes.read_header(table)[2], message, signature
@@ -115,7 +121,7 @@ class Fair(Drawing):
         n = n or self.count()
         size = min(n, fair.MOST)
         master, seeds = bytes([self.draw.randrange(8)]) * 32, self.draw.randbytes(32 * size)
-        request = FAIR_MAKE, n, 0, 0, [self.odd(master), self.odd(seeds), self.odd(bytes(fair.cache_size(size))), self.odd(bytes(32))]
+        request = FAIR_MAKE, n, 0, 0, [self.odd(master), self.odd(seeds), self.odd(bytes(fair.cache_size(size))), self.odd(bytes(32))], self.module()
         answer, _, (_, _, cache, key) = self.model.call(*request)
         if answer == 0:
             self.n, self.cache, self.key, self.signed = n, cache, key, None
@@ -132,7 +138,7 @@ class Fair(Drawing):
         return request
 
     def sign(self):
-        request = FAIR_SIGN, 0, 0, 0, [self.odd(self.cache), self.message(), self.odd(bytes(fair.SIGNATURE))]
+        request = FAIR_SIGN, 0, 0, 0, [self.odd(self.cache), self.message(), self.odd(bytes(fair.SIGNATURE))], self.module()
         answer, _, (cache, message, signature) = self.model.call(*request)
         if answer == 0 and cache == self.cache:
             self.signed = fair.read_header(cache)[1], message, signature
@@ -171,7 +177,7 @@ def main():
             seen[name] = seen.get(name, 0) + 1
     for (name, number), times in sorted(seen.items()):
         print(f"calls: {name}: answer {number}: {times} times")
-    print(f"calls: {cases} calls are those of the model, with every buffer and every Ed25519 call ({time.time() - began:.0f} s)")
+    print(f"calls: {cases} calls are those of the model, with every buffer, every Ed25519 call and the tally ({time.time() - began:.0f} s)")
 
 
 main()

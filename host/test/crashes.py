@@ -3,6 +3,7 @@ loses or tears what was not synced. Each time people start it again and end thei
 Programs that work in a wrong order have to be caught. Needs desk/build before."""
 import copy
 import functools
+import itertools
 import os
 import pathlib
 import re
@@ -17,6 +18,7 @@ from disk import Disk
 
 ROOT = pathlib.Path(__file__).resolve().parents[2]
 NO_FILES = frozenset()
+NOT_REACHED, REACHED = b"module not reached: keep cash and card apart until it is back\n", b"module reached again\n"
 
 
 class Wrong(Exception):
@@ -170,6 +172,28 @@ def fail(desk):
     return f"where any of {len(calls)} calls of a day fails, the desk ends, and no promise is broken"
 
 
+def without(text, calls):
+    """What was shown and called besides the lines of a module that is out of reach and back."""
+    lines = [line.hex() for line in (NOT_REACHED, REACHED)]
+    return text.replace(NOT_REACHED, b"").replace(REACHED, b""), [call for call in calls if call.split()[-1] not in lines]
+
+
+def go_unanswered(desk):
+    """The module drops out at each asking in turn, for two in a row: the desk says so once and waits; then it has lost nothing."""
+    drops = 0
+    for whole in desk.whole_runs():
+        for n in itertools.count(1):
+            ran = desk.run(whole.given, *whole.words, told=whole.told, DESK_SILENT=n)
+            if (ran.text, ran.calls) == (whole.text, whole.calls):
+                break
+            drops += 1
+            need(ran.status == 0, f"the desk does not wait for the module: {ran.error!r}")
+            need((ran.text.count(NOT_REACHED), ran.text.count(REACHED)) == (1, 1), "the desk does not say that the module is out of reach")
+            need((*without(ran.text, ran.calls), ran.files) == (whole.text, whole.calls, whole.files), "a module that drops out changes what the desk does")
+    need(drops > 0, "the module was never asked")
+    return f"the module drops out at each of {drops} askings of a day: the desk waits, and loses nothing"
+
+
 def break_off(desk):
     """Calls broken off by signals, reads and writes in pieces: all is as ever."""
     for whole in desk.whole_runs():
@@ -190,7 +214,7 @@ def forget(desk):
     return "when the desk has ended, its variables hold no secret"
 
 
-EVERYTHING = [keep_promises, stop_for_real, fail, break_off, forget]
+EVERYTHING = [keep_promises, stop_for_real, fail, go_unanswered, break_off, forget]
 
 
 def planted(name, work, edits):
@@ -212,7 +236,7 @@ def catch(kind, what, said, edits):
         work = pathlib.Path(folder)
         desk = kind(planted(kind.name, work, edits), work)
         try:
-            for ask in forget, keep_promises:
+            for ask in forget, keep_promises, go_unanswered:
                 ask(desk)
         except Wrong as wrong:
             if said in str(wrong):

@@ -13,9 +13,9 @@ sys.path.insert(0, str(ROOT / "host" / "model"))
 import ed25519
 from frames import ask_sum, flipped
 from library import VERIFY, Library
-from kes import Scheme, cut, left, signature_size, sum_size
+from kes import Module, Scheme, cut, left, signature_size, sum_size
 
-MODEL = Scheme(ed25519)
+MODEL = Scheme(Module(ed25519))
 
 # what a mend drops; a label's name goes with it where it is a word, and stays where the scan has put digits in its place
 TEX_AND_BLANKS = re.compile(

@@ -11,9 +11,9 @@ sys.dont_write_bytecode = True
 sys.path.insert(0, str(ROOT / "host" / "model"))
 import ed25519
 from desk import Desk
-from kes import Scheme
+from kes import Module, Scheme
 
-DESK = Desk(Scheme(ed25519), 1, 2, range(32))
+DESK = Desk(Scheme(Module(ed25519)), 1, 2, range(32))
 FIRST, LATER = (1, 199_999), (11, 99_999)  # serials and cents whose digits, run together, are the same
 
 

@@ -16,7 +16,7 @@ import kes
 from desk import Desk
 from journal import Judge
 
-SCHEME = kes.Scheme(ed25519)
+SCHEME = kes.Scheme(kes.Module(ed25519))
 HEIGHTS = [(0, 0), (1, 2), (2, 1)]
 
 

@@ -1,6 +1,6 @@
 /* Calls the library as requests on standard input ask (lent.h says how), and writes to standard output what it answered and left.
- * A request: op (1 byte), h1, h2, step (8 bytes each), four lengths (4 each), four buffers; numbers lowest byte first.
- * An answer: the answer (8), how often each Ed25519 call was made (3 times 4), the four buffers as they were left. */
+ * A request: op (1 byte), h1, h2, step, the tally, every, silent (8 bytes each), four lengths (4 each), four buffers; numbers lowest byte
+ * first. An answer: the answer (8), how often each Ed25519 call was made (3 times 4), the tally (8) and the four buffers as they were left. */
 #include <stdio.h>
 #include <stdlib.h>
 
@@ -42,6 +42,9 @@ static void read_request(int op)
     request.h1 = number(8);
     request.h2 = number(8);
     request.step = number(8);
+    request.tally = number(8);
+    request.every = number(8);
+    request.silent = number(8);
     for (i = 0; i < LENT; i++) {
         request.len[i] = (size_t)number(4);
         if (request.len[i] > MOST)
@@ -58,6 +61,7 @@ static void write_outcome(void)
     answer(outcome.answer, 8);
     for (i = 0; i < 3; i++)
         answer(outcome.asked[i], 4);
+    answer(outcome.tally, 8);
     for (i = 0; i < LENT; i++)
         fwrite(outcome.left[i], 1, request.len[i], stdout);
     fflush(stdout);

@@ -13,6 +13,7 @@ struct guarded {
 };
 
 static struct guarded seed, seeds, table, cache, key, signature, message, other;
+static uint64_t tally;
 static int failures;
 
 static void expect(int holds, const char *what)
@@ -52,7 +53,7 @@ static uint64_t make(void)
     clear(&seed);
     clear(&table);
     memset(in(&seed), 7, KES_SEED_SIZE);
-    return kes_make(H1, H2, in(&seed), KES_SEED_SIZE, in(&table), kes_table_size(H1, H2));
+    return kes_make(H1, H2, in(&seed), KES_SEED_SIZE, in(&table), kes_table_size(H1, H2), &tally);
 }
 
 static void sizes(void)
@@ -85,11 +86,11 @@ static void making(void)
     expect(guarded(&seed, KES_SEED_SIZE) && guarded(&table, size), "making writes nothing else");
     memset(in(&seed), 7, KES_SEED_SIZE);
     other = table;
-    expect(kes_make(13, 0, in(&seed), KES_SEED_SIZE, in(&table), size) == KES_HEIGHT, "height 13 is refused with 1");
-    expect(kes_make(H1, (uint64_t)1 << 32, in(&seed), KES_SEED_SIZE, in(&table), size) == KES_HEIGHT, "no height wraps into a good one");
-    expect(kes_make(H1, H2, in(&seed), 31, in(&table), size) == KES_SEED_OR_KEY, "a short seed is refused with 2");
-    expect(kes_make(H1, H2, NULL, 0, NULL, 0) == KES_SEED_OR_KEY, "an empty seed is refused with 2, before 4");
-    expect(kes_make(H1, H2, in(&seed), KES_SEED_SIZE, in(&table), size - 1) == KES_LENGTH, "a short table is refused with 4");
+    expect(kes_make(13, 0, in(&seed), KES_SEED_SIZE, in(&table), size, &tally) == KES_HEIGHT, "height 13 is refused with 1");
+    expect(kes_make(H1, (uint64_t)1 << 32, in(&seed), KES_SEED_SIZE, in(&table), size, &tally) == KES_HEIGHT, "no height wraps into a good one");
+    expect(kes_make(H1, H2, in(&seed), 31, in(&table), size, &tally) == KES_SEED_OR_KEY, "a short seed is refused with 2");
+    expect(kes_make(H1, H2, NULL, 0, NULL, 0, &tally) == KES_SEED_OR_KEY, "an empty seed is refused with 2, before 4");
+    expect(kes_make(H1, H2, in(&seed), KES_SEED_SIZE, in(&table), size - 1, &tally) == KES_LENGTH, "a short table is refused with 4");
     expect(memcmp(&other, &table, sizeof table) == 0 && in(&seed)[0] == 7, "a refused make changes nothing");
 }
 
@@ -118,15 +119,15 @@ static void moving(void)
     size_t size = kes_table_size(H1, H2);
     uint64_t moved;
     make();
-    moved = kes_move(in(&table), size, 5);
+    moved = kes_move(in(&table), size, 5, &tally);
     expect(kes_number(moved) == KES_DONE && kes_count(moved) == 1 + 4 + 1, "a jump over the parent's step grows six key pairs");
     expect(guarded(&table, size), "moving writes nothing else");
     other = table;
-    expect(kes_move(in(&table), size, 5) == KES_NOT_LATER, "the present step is refused with 5");
-    expect(kes_move(in(&table), size, 0) == KES_NOT_LATER, "an earlier step is refused with 5");
-    expect(kes_move(in(&table), size, STEPS) == KES_PAST_END, "step 8 is refused with 6");
-    expect(kes_move(in(&table), size, ((uint64_t)1 << 32) + 6) == KES_PAST_END, "no step wraps into a good one");
-    expect(kes_move(in(&table), size - 1, 6) == KES_TABLE && kes_move(NULL, 0, 6) == KES_TABLE, "a bad table is refused with 3");
+    expect(kes_move(in(&table), size, 5, &tally) == KES_NOT_LATER, "the present step is refused with 5");
+    expect(kes_move(in(&table), size, 0, &tally) == KES_NOT_LATER, "an earlier step is refused with 5");
+    expect(kes_move(in(&table), size, STEPS, &tally) == KES_PAST_END, "step 8 is refused with 6");
+    expect(kes_move(in(&table), size, ((uint64_t)1 << 32) + 6, &tally) == KES_PAST_END, "no step wraps into a good one");
+    expect(kes_move(in(&table), size - 1, 6, &tally) == KES_TABLE && kes_move(NULL, 0, 6, &tally) == KES_TABLE, "a bad table is refused with 3");
     expect(memcmp(&other, &table, sizeof table) == 0, "a refused move changes nothing");
 }
 
@@ -137,14 +138,14 @@ static void signing(void)
     clear(&message);
     make();
     other = table;
-    expect(kes_sign(in(&table), size, NULL, 0, in(&signature), signed_size) == KES_DONE, "an empty message is signed");
-    expect(kes_sign(in(&table), size, in(&message), KES_MESSAGE_MAX, in(&signature), signed_size) == KES_DONE, "4,096 bytes are signed");
+    expect(kes_sign(in(&table), size, NULL, 0, in(&signature), signed_size, &tally) == KES_DONE, "an empty message is signed");
+    expect(kes_sign(in(&table), size, in(&message), KES_MESSAGE_MAX, in(&signature), signed_size, &tally) == KES_DONE, "4,096 bytes are signed");
     expect(guarded(&signature, signed_size) && memcmp(&other, &table, sizeof table) == 0, "signing writes the signature alone");
     other = signature;
-    expect(kes_sign(in(&table), size, in(&message), KES_MESSAGE_MAX + 1, in(&signature), signed_size) == KES_TOO_LONG, "4,097 bytes are refused with 7");
-    expect(kes_sign(in(&table), size, in(&message), KES_MESSAGE_MAX + 1, NULL, 0) == KES_TOO_LONG, "7 comes before 4");
-    expect(kes_sign(in(&table), size, in(&message), 3, in(&signature), signed_size + 1) == KES_LENGTH, "a long output is refused with 4");
-    expect(kes_sign(NULL, 0, in(&message), KES_MESSAGE_MAX + 1, NULL, 0) == KES_TABLE, "3 comes before 7");
+    expect(kes_sign(in(&table), size, in(&message), KES_MESSAGE_MAX + 1, in(&signature), signed_size, &tally) == KES_TOO_LONG, "4,097 bytes are refused with 7");
+    expect(kes_sign(in(&table), size, in(&message), KES_MESSAGE_MAX + 1, NULL, 0, &tally) == KES_TOO_LONG, "7 comes before 4");
+    expect(kes_sign(in(&table), size, in(&message), 3, in(&signature), signed_size + 1, &tally) == KES_LENGTH, "a long output is refused with 4");
+    expect(kes_sign(NULL, 0, in(&message), KES_MESSAGE_MAX + 1, NULL, 0, &tally) == KES_TABLE, "3 comes before 7");
     expect(memcmp(&other, &signature, sizeof signature) == 0, "a refused signing changes nothing");
 }
 
@@ -158,7 +159,7 @@ static void verifying(void)
     size_t signed_size = kes_signature_size(H1, H2);
     reading();
     signing();
-    expect(kes_sign(in(&table), kes_table_size(H1, H2), in(&message), 40, in(&signature), signed_size) == KES_DONE, "40 bytes are signed");
+    expect(kes_sign(in(&table), kes_table_size(H1, H2), in(&message), 40, in(&signature), signed_size, &tally) == KES_DONE, "40 bytes are signed");
     expect(verify(0, KES_KEY_SIZE, 40, signed_size) == KES_DONE, "the signature is accepted");
     expect(verify(1, KES_KEY_SIZE, 40, signed_size) == KES_NOT_ACCEPTED, "at another step it is not");
     expect(verify(STEPS, KES_KEY_SIZE, 40, signed_size) == KES_PAST_END, "step T is refused with 6, not taken modulo T");
@@ -192,13 +193,13 @@ static uint32_t fair_make(void)
     clear(&key);
     memset(in(&seed), 7, KES_SEED_SIZE);
     memset(in(&seeds), 8, kes_fair_seeds_size(N));
-    return kes_fair_make(N, in(&seed), KES_SEED_SIZE, in(&seeds), kes_fair_seeds_size(N), in(&cache), kes_fair_cache_size(N), in(&key), KES_KEY_SIZE);
+    return kes_fair_make(N, in(&seed), KES_SEED_SIZE, in(&seeds), kes_fair_seeds_size(N), in(&cache), kes_fair_cache_size(N), in(&key), KES_KEY_SIZE, &tally);
 }
 
 /* The same with these lengths, over what stands there. */
 static uint32_t fair_remake(uint64_t n, size_t own, size_t given, size_t size, size_t key_len)
 {
-    return kes_fair_make(n, in(&seed), own, in(&seeds), given, in(&cache), size, in(&key), key_len);
+    return kes_fair_make(n, in(&seed), own, in(&seeds), given, in(&cache), size, in(&key), key_len, &tally);
 }
 
 static void fair_making(void)
@@ -212,7 +213,7 @@ static void fair_making(void)
     expect(fair_remake((uint64_t)1 << 32, 32, 96, 388, 32) == KES_ENTRIES, "no count wraps into a good one");
     expect(fair_remake(N, 31, 96, 387, 32) == KES_SEED_OR_KEY && fair_remake(N, 32, 97, 388, 31) == KES_SEED_OR_KEY, "2 comes before 4");
     expect(fair_remake(N, 32, 96, 389, 32) == KES_LENGTH && fair_remake(N, 32, 96, 388, 31) == KES_LENGTH, "a wrong cache or key is refused with 4");
-    expect(kes_fair_make(N, NULL, 0, NULL, 0, NULL, 0, NULL, 0) == KES_SEED_OR_KEY, "nothing lent is refused with 2");
+    expect(kes_fair_make(N, NULL, 0, NULL, 0, NULL, 0, NULL, 0, &tally) == KES_SEED_OR_KEY, "nothing lent is refused with 2");
     expect(memcmp(&before[0], &seed, sizeof seed) == 0 && memcmp(&before[1], &seeds, sizeof seeds) == 0
         && memcmp(&before[2], &cache, sizeof cache) == 0 && memcmp(&before[3], &key, sizeof key) == 0, "a refused make changes nothing");
 }
@@ -236,13 +237,13 @@ static void fair_signing(void)
     fair_make();
     clear(&signature);
     other = cache;
-    expect(kes_fair_sign(in(&cache), 388, NULL, 0, in(&signature), KES_FAIR_SIGNATURE_SIZE) == KES_DONE, "a cache signs no byte");
-    expect(kes_fair_sign(in(&cache), 388, in(&message), 40, in(&signature), KES_FAIR_SIGNATURE_SIZE) == KES_DONE, "a cache signs");
+    expect(kes_fair_sign(in(&cache), 388, NULL, 0, in(&signature), KES_FAIR_SIGNATURE_SIZE, &tally) == KES_DONE, "a cache signs no byte");
+    expect(kes_fair_sign(in(&cache), 388, in(&message), 40, in(&signature), KES_FAIR_SIGNATURE_SIZE, &tally) == KES_DONE, "a cache signs");
     expect(guarded(&signature, KES_FAIR_SIGNATURE_SIZE) && memcmp(&other, &cache, sizeof cache) == 0, "a cache's signing writes the signature alone");
     other = signature;
-    expect(kes_fair_sign(NULL, 0, in(&message), KES_MESSAGE_MAX + 1, NULL, 0) == KES_TABLE, "3 comes before 7 and 4");
-    expect(kes_fair_sign(in(&cache), 388, in(&message), KES_MESSAGE_MAX + 1, NULL, 0) == KES_TOO_LONG, "7 comes before 4");
-    expect(kes_fair_sign(in(&cache), 388, in(&message), 40, in(&signature), 161) == KES_LENGTH, "a long output is refused with 4");
+    expect(kes_fair_sign(NULL, 0, in(&message), KES_MESSAGE_MAX + 1, NULL, 0, &tally) == KES_TABLE, "3 comes before 7 and 4");
+    expect(kes_fair_sign(in(&cache), 388, in(&message), KES_MESSAGE_MAX + 1, NULL, 0, &tally) == KES_TOO_LONG, "7 comes before 4");
+    expect(kes_fair_sign(in(&cache), 388, in(&message), 40, in(&signature), 161, &tally) == KES_LENGTH, "a long output is refused with 4");
     expect(memcmp(&other, &signature, sizeof signature) == 0, "a refused signing changes nothing");
 }
 
@@ -261,6 +262,22 @@ static void fair_verifying(void)
     expect(fair_verify(N, N, 31, KES_MESSAGE_MAX + 1, 0) == KES_SEED_OR_KEY, "then 2");
     expect(fair_verify(N, N, 32, KES_MESSAGE_MAX + 1, 161) == KES_LENGTH, "then 4");
     expect(fair_verify(N, N, 32, KES_MESSAGE_MAX + 1, 160) == KES_TOO_LONG, "then 7, before 6");
+}
+
+/* Each asking of Ed25519 makes the tally one more; after 2^64 - 1 comes 0. */
+static void tallying(void)
+{
+    size_t size = kes_table_size(H1, H2);
+    tally = UINT64_MAX - 1;
+    make();
+    expect(tally == 5, "making asks for six keys and a signature");
+    expect(kes_number(kes_move(in(&table), size, 5, &tally)) == KES_DONE && tally == 11, "moving across asks for five keys and a signature");
+    expect(kes_number(kes_move(in(&table), size, 7, &tally)) == KES_DONE && tally == 13, "moving inside the child asks for two keys");
+    expect(kes_sign(in(&table), size, NULL, 0, in(&signature), kes_signature_size(H1, H2), &tally) == KES_DONE && tally == 14, "signing asks once");
+    expect(fair_make() == KES_DONE && tally == 21, "making a cache of three asks seven times");
+    expect(kes_fair_sign(in(&cache), 388, NULL, 0, in(&signature), KES_FAIR_SIGNATURE_SIZE, &tally) == KES_DONE && tally == 22, "a cache's signing asks once");
+    making();
+    expect(tally == 29, "a refusal leaves the tally");
 }
 
 static void wiping(void)
@@ -286,6 +303,7 @@ int main(int argc, char **argv)
     fair_making();
     fair_moving();
     fair_verifying();
+    tallying();
     wiping();
     if (failures == 0)
         puts("kes_test: every call answers as it must");

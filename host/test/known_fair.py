@@ -8,7 +8,7 @@ from receipt import Checker
 MORNING = 2  # the desk's step
 RANDOM = 32  # where power.c begins, so that no seed is the desk's
 MASTER, *SEEDS = (bytes(range(at, at + 32)) for at in range(RANDOM, RANDOM + 4 * 32, 32))
-FAIR = Fair(ed25519)
+FAIR = Fair(kes.Module(ed25519))
 
 
 def caches(n):

@@ -6,7 +6,7 @@ from past import Past
 H1, H2 = 1, 2
 SEED = bytes(range(32))  # power.c hands it out
 STEPS = kes.steps(H1, H2)
-SCHEME = kes.Scheme(ed25519)
+SCHEME = kes.Scheme(kes.Module(ed25519))
 
 
 def tables():

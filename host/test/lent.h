@@ -2,8 +2,9 @@
  *
  * The call is made twice: once each buffer ends where a page begins that must not be touched, once each begins where such a page
  * ends. A length of 0 goes as a pointer into that page the first time, as a null pointer the second. What kes.h lends read-only is
- * mapped read-only during the call, and everything is where the first time was refused: a refusal writes nothing.
- * A fair's cache is made of nothing but answers that Ed25519 has given: until the last is given, every buffer has to be as it was lent.
+ * mapped read-only during the call, and everything is where the first time was refused: a refusal writes nothing, but for the tally of
+ * a call that was not answered. Until Ed25519 was asked for the last time, every buffer has to be as it was lent, and each asking has to
+ * be made at the next number. An asking at a number that the request leaves unanswered gets junk and no.
  * A call that touches what it was not lent, does not end, or answers or leaves something else the second time ends the process. */
 #ifndef LENT_H
 #define LENT_H
@@ -23,13 +24,14 @@ enum { LENT = 4, MOST = 36864 };
 struct request {
     int op;
     uint64_t h1, h2, step; /* h1 is also a fair's N */
+    uint64_t tally, every, silent; /* a number n is not answered where n % every is silent; every is 0 where all are */
     size_t len[LENT];
     uint8_t bytes[LENT][MOST];
 };
 
 /* What was answered, how often each Ed25519 call was made, and the buffers as they were left. */
 struct outcome {
-    uint64_t answer;
+    uint64_t answer, tally;
     uint32_t asked[3];
     uint8_t left[LENT][MOST];
 };

@@ -5,6 +5,8 @@ import subprocess
 
 ROOT = pathlib.Path(__file__).resolve().parents[2]
 MAKE, READ_KEY, MOVE, SIGN, VERIFY, HASH, FAIR_MAKE, FAIR_MOVE, FAIR_SIGN, FAIR_VERIFY = range(10)
+# a tally, and the numbers n that are not answered: those with n % every == silent, none where every is 0
+ANSWERED = (0, 0, 0)
 # of lent.h: how many buffers a call is lent at most, and the longest that the driver takes
 LENT, MOST = 4, 36864
 BEHIND = {"sodium": "-lsodium", "openssl": "-lcrypto"}
@@ -34,11 +36,12 @@ class Library:
     def __init__(self, folder):
         self.process = subprocess.Popen([linked(folder, "kes_driver")], stdin=subprocess.PIPE, stdout=subprocess.PIPE)
 
-    def call(self, op, h1, h2, step, buffers):
+    def call(self, op, h1, h2, step, buffers, module=ANSWERED):
+        """The answer; how often Ed25519 made a key, signed and verified, and the tally left; the buffers left."""
         lengths = [len(b) for b in buffers] + [0] * (LENT - len(buffers))
-        self.process.stdin.write(struct.pack("<BQQQIIII", op, h1, h2, step, *lengths) + b"".join(buffers))
+        self.process.stdin.write(struct.pack("<BQQQQQQIIII", op, h1, h2, step, *module, *lengths) + b"".join(buffers))
         self.process.stdin.flush()
-        answer, *asked = struct.unpack("<QIII", self.read(20))
+        answer, *asked = struct.unpack("<QIIIQ", self.read(28))
         return answer, asked, [self.read(len(b)) for b in buffers]
 
     def read(self, n):

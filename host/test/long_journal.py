@@ -101,7 +101,7 @@ def count_calls(library, folder):
     data = desk.header + joined(good[0]) + joined(good[1]) + b"".join(idle) + joined(good[2])
     run = subprocess.run([program], input=data, capture_output=True, check=True)
     letters = re.findall(rb"^\d+\t(.)$", run.stdout, re.M)
-    if run.stdout != Judge(kes.Scheme(ed25519)).output(data) or set(letters[2:-1]) != set(b"M O S".split()) or letters.count(b"G") != 3:
+    if run.stdout != Judge(kes.Scheme(kes.Module(ed25519))).output(data) or set(letters[2:-1]) != set(b"M O S".split()) or letters.count(b"G") != 3:
         sys.exit(f"long_journal: the counted journal is judged otherwise: {run.stdout}")
     if int(run.stderr) != 2 * 3:
         sys.exit(f"long_journal: {int(run.stderr)} Ed25519 calls for 3 good lines and {len(idle)} lines that are M, O or S")

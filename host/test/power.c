@@ -1,8 +1,9 @@
 /* Stands between the example desk and the system, for host/test/crashes.py: each call that was made is a line in the file that
  * DESK_LOG names, random bytes are DESK_RANDOM and the numbers after it, and nothing is synced in earnest, since crashes.py says what a
- * power cut leaves.
+ * power cut leaves. It stands between the library and Ed25519 too: there each asking has to be made at the next number.
  *   DESK_STOP=n    the process ends before call n
  *   DESK_FAIL=n    call n is not made and fails
+ *   DESK_SILENT=n  the module does not answer its n-th asking, nor the one after it
  *   DESK_BROKEN=1  what a signal can break off is broken off once, and what is read or written comes in pieces
  *   DESK_MEMORY=f  file f gets what the program's variables hold when it has ended */
 #define _DEFAULT_SOURCE
@@ -14,7 +15,10 @@
 #include <stdlib.h>
 #include <sys/file.h>
 #include <sys/stat.h>
+#include <time.h>
 #include <unistd.h>
+
+#include "../../desk/adapter.h"
 
 #define BOTH(call) extern __typeof__(call) __real_##call, __wrap_##call
 BOTH(openat);
@@ -30,6 +34,9 @@ BOTH(fstat);
 BOTH(flock);
 BOTH(lseek);
 BOTH(getentropy);
+BOTH(nanosleep);
+BOTH(desk_ed25519_public_key);
+BOTH(desk_ed25519_sign);
 
 enum { WHOLE, BREAKABLE };
 
@@ -212,4 +219,35 @@ int __wrap_getentropy(void *bytes, size_t len)
         ((uint8_t *)bytes)[i] = (uint8_t)(asked("DESK_RANDOM") + drawn++);
     note("random\n");
     return 0;
+}
+
+/* Nobody waits in earnest. */
+int __wrap_nanosleep(const struct timespec *time, struct timespec *left)
+{
+    (void)time, (void)left;
+    return 0;
+}
+
+/* Whether the module answers what it is asked at this number. */
+static int answers(uint64_t number)
+{
+    static long askings;
+    static uint64_t next;
+    long silent = asked("DESK_SILENT");
+    if (askings++ > 0 && number != next) {
+        fputs("power: the module is asked at another number than the next\n", stderr);
+        _exit(97);
+    }
+    next = number + 1;
+    return silent == 0 || (askings != silent && askings != silent + 1);
+}
+
+uint32_t __wrap_desk_ed25519_public_key(uint64_t number, const uint8_t *secret, uint8_t *out)
+{
+    return answers(number) ? __real_desk_ed25519_public_key(number, secret, out) : 0;
+}
+
+uint32_t __wrap_desk_ed25519_sign(uint64_t number, const uint8_t *secret, const uint8_t *message, size_t len, uint8_t *out)
+{
+    return answers(number) ? __real_desk_ed25519_sign(number, secret, message, len, out) : 0;
 }

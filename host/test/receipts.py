@@ -17,7 +17,8 @@ from fair import Fair, cache_size
 from frames import flipped
 from receipt import Checker, certificate_line, certificate_text, sale_line, sale_message, short, unshort
 
-SCHEME, FAIR = kes.Scheme(sodium), Fair(sodium)
+MODULE = kes.Module(sodium)
+SCHEME, FAIR = kes.Scheme(MODULE), Fair(MODULE)
 CARD, STEP = b"1111222233334444", 5
 
 

@@ -11,7 +11,7 @@ ROOT = pathlib.Path(__file__).resolve().parents[2]
 sys.dont_write_bytecode = True
 sys.path.insert(0, str(ROOT / "host" / "model"))
 import ed25519
-from frames import ask_key, ask_sign, ask_verify, flipped, verdict
+from frames import ask_key, ask_sign, ask_verify, flipped, given, verdict
 
 SIZES = [0, 1, 31, 32, 33, 63, 64, 65, 111, 112, 127, 128, 129, 255, 256, 1023, 1024, 4095, 4096]
 
@@ -28,8 +28,8 @@ def vectors():
 
 def published():
     for name, v in vectors():
-        yield f"{name}, public key", ask_key(v["secret"]), v["public"]
-        yield f"{name}, sign", ask_sign(v["secret"], v["message"]), v["signature"]
+        yield f"{name}, public key", ask_key(v["secret"]), given(v["public"])
+        yield f"{name}, sign", ask_sign(v["secret"], v["message"]), given(v["signature"])
         yield f"{name}, verify", ask_verify(v["public"], v["message"], v["signature"]), verdict(True)
 
 
@@ -39,8 +39,8 @@ def drawn():
     for size in SIZES + [draw.randrange(4097) for _ in range(40)]:
         secret, message = draw.randbytes(32), draw.randbytes(size)
         key, signature = ed25519.public_key(secret), ed25519.sign(secret, message)
-        yield f"{size} bytes, public key", ask_key(secret), key
-        yield f"{size} bytes, sign", ask_sign(secret, message), signature
+        yield f"{size} bytes, public key", ask_key(secret), given(key)
+        yield f"{size} bytes, sign", ask_sign(secret, message), given(signature)
         yield f"{size} bytes, verify", ask_verify(key, message, signature), verdict(True)
 
 

@@ -16,7 +16,7 @@ def stepped(library, h):
     _, _, (_, table) = library.call(MAKE, 0, h, 0, [bytes(range(32)), bytes(kes.table_size(0, h))])
     made = told = 0
     for step in range(1, kes.steps(0, h)):
-        answer, (public_keys, _, _), (table,) = library.call(MOVE, 0, 0, step, [table])
+        answer, (public_keys, _, _, _), (table,) = library.call(MOVE, 0, 0, step, [table])
         number, count = answer & 0xFFFFFFFF, answer >> 32
         if number != 0:
             sys.exit(f"singly: height {h}: the move to step {step} was refused with {number}")

@@ -16,7 +16,7 @@ struct lent {
     uint8_t seed[KES_SEED_SIZE], fresh[KES_TABLE_MAX], table[KES_TABLE_MAX], key[KES_KEY_SIZE], digest[KES_DIGEST_SIZE];
     uint8_t message[KES_MESSAGE_MAX], signature[KES_SIGNATURE_MAX];
     uint8_t seeds[KES_FAIR_SEEDS_SIZE(N)], fair[KES_FAIR_CACHE_MAX], cache[KES_FAIR_CACHE_MAX], fair_key[KES_KEY_SIZE], sale[KES_FAIR_SIGNATURE_SIZE];
-    uint64_t step, answer;
+    uint64_t step, answer, tally;
     size_t reach;
 };
 
@@ -26,14 +26,14 @@ static void make(void)
 {
     HERE();
     memset(l->seed, 7, sizeof l->seed);
-    l->answer = kes_make(H1, H2, l->seed, sizeof l->seed, l->fresh, sizeof l->fresh);
+    l->answer = kes_make(H1, H2, l->seed, sizeof l->seed, l->fresh, sizeof l->fresh, &l->tally);
 }
 
 static void move(void)
 {
     HERE();
     memcpy(l->table, l->fresh, sizeof l->table);
-    l->answer = kes_move(l->table, sizeof l->table, l->step);
+    l->answer = kes_move(l->table, sizeof l->table, l->step, &l->tally);
 }
 
 static void read_key(void)
@@ -45,7 +45,7 @@ static void read_key(void)
 static void sign(void)
 {
     HERE();
-    l->answer = kes_sign(l->fresh, sizeof l->fresh, l->message, sizeof l->message, l->signature, sizeof l->signature);
+    l->answer = kes_sign(l->fresh, sizeof l->fresh, l->message, sizeof l->message, l->signature, sizeof l->signature, &l->tally);
 }
 
 static void verify(void)
@@ -65,7 +65,7 @@ static void fair_make(void)
     HERE();
     memset(l->seed, 7, sizeof l->seed);
     memset(l->seeds, 8, sizeof l->seeds);
-    l->answer = kes_fair_make(N, l->seed, sizeof l->seed, l->seeds, sizeof l->seeds, l->fair, sizeof l->fair, l->fair_key, sizeof l->fair_key);
+    l->answer = kes_fair_make(N, l->seed, sizeof l->seed, l->seeds, sizeof l->seeds, l->fair, sizeof l->fair, l->fair_key, sizeof l->fair_key, &l->tally);
 }
 
 static void fair_move(void)
@@ -78,7 +78,7 @@ static void fair_move(void)
 static void fair_sign(void)
 {
     HERE();
-    l->answer = kes_fair_sign(l->fair, sizeof l->fair, l->message, sizeof l->message, l->sale, sizeof l->sale);
+    l->answer = kes_fair_sign(l->fair, sizeof l->fair, l->message, sizeof l->message, l->sale, sizeof l->sale, &l->tally);
 }
 
 static void fair_verify(void)

@@ -1,4 +1,5 @@
-/* stops CALL N: a host that asks an adapter for a call, over libraries of which the first N calls succeed and the next fails. */
+/* stops CALL N: a host that asks an adapter for a call, over libraries of which the first N calls succeed and the next fails, and prints
+ * the answer. */
 #include <string.h>
 
 #include "../../desk/adapter.h"
@@ -31,13 +32,14 @@ void EVP_PKEY_free(void) {}
 int main(int argc, char **argv)
 {
     uint8_t first[32] = {0}, key[32], signature[64] = {0};
+    uint32_t answer;
     left = argc == 3 ? atoi(argv[2]) : 0;
     if (strcmp(argv[1], "public_key") == 0)
-        desk_ed25519_public_key(first, key);
+        answer = desk_ed25519_public_key(7, first, key);
     else if (strcmp(argv[1], "sign") == 0)
-        desk_ed25519_sign(first, NULL, 0, signature);
+        answer = desk_ed25519_sign(7, first, NULL, 0, signature);
     else
-        desk_ed25519_verify(first, NULL, 0, signature);
-    puts("answered");
+        answer = desk_ed25519_verify(first, NULL, 0, signature);
+    printf("%u\n", (unsigned)answer);
     return 0;
 }

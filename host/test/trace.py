@@ -1,7 +1,7 @@
 #!/usr/bin/env python3
-"""No trace of yesterday: in a process of its own (trace.c) a key, or a fair's cache, is made, moved about and made to sign. All memory
-that the process can write is searched, at every byte, for every word of 8 bytes of the past: before kes_wipe some of a key's has to be
-found, and after it none. Needs desk/build before."""
+"""No trace of yesterday: in a process of its own (trace.c) a key, or a fair's cache, is made, moved about and made to sign, each call also
+with a module that does not answer. All memory that the process can write is searched, at every byte, for every word of 8 bytes of the
+past: before kes_wipe some of a key's has to be found, and after it none. Needs desk/build before."""
 import pathlib
 import random
 import re
@@ -17,7 +17,7 @@ sys.path.insert(0, str(ROOT / "host" / "model"))
 import fair
 import kes
 import sodium
-from library import program
+from library import COUNTED, program
 from past import FairPast, Past, number_of
 from planted import SecretKept, SeedKept
 
@@ -40,12 +40,12 @@ class Host:
     def __init__(self, driver):
         self.process = subprocess.Popen([driver], stdin=subprocess.PIPE, stdout=subprocess.PIPE, bufsize=0)
 
-    def ask(self, op, h1=0, h2=0, step=0, data=b"", size=0):
-        """Has the host do a call, which has to be done, and answers the size bytes that it hands out."""
-        self.process.stdin.write(struct.pack("=BBBBII", op, h1, h2, 0, step, len(data)) + data)
+    def ask(self, op, h1=0, h2=0, step=0, data=b"", size=0, silent=0):
+        """Has the host do a call, which has to be done, or where an asking is silent not, and answers the size bytes that it hands out."""
+        self.process.stdin.write(struct.pack("=BBBBIII", op, h1, h2, 0, step, silent, len(data)) + data)
         number, _ = struct.unpack("=II", self.read(8))
-        if number != kes.DONE:
-            sys.exit(f"trace: the host refuses a call with {number}")
+        if number != (kes.UNANSWERED if silent else kes.DONE):
+            sys.exit(f"trace: the host answers a call with {number}")
         return self.read(size)
 
     def read(self, size):
@@ -91,14 +91,35 @@ class Life:
     def __init__(self, driver, draw):
         self.host, self.draw, self.step, self.signatures, self.before = Host(driver), draw, 0, [], 0
 
-    def wipe(self):
+    def searched(self, past):
         """Searches, wipes, and searches again."""
-        past = self.past()
         self.before += len(search(self.host, past.words()))
         self.host.ask(WIPE)
         after = search(self.host, past.words())
         if after:
             sys.exit("\n".join([f"trace: at step {self.step} of {self.name} there is still", *after]))
+
+    def silences(self, askings):
+        """The first asking, one in the middle, and the last, as silent counts them."""
+        return sorted({1, (askings + 1) // 2, askings})
+
+    def fail_to_make(self, askings, seed, make):
+        """Makes that are not answered leave the seed where the host has it, and nothing else of the past."""
+        for silent in self.silences(askings):
+            make(silent)
+            past = self.past()
+            del past.names[seed]
+            self.searched(past)
+
+    def fail(self, askings, call):
+        """A call that is not answered leaves no more than one that is done."""
+        for silent in self.silences(askings):
+            call(silent)
+            self.wipe()
+
+    def wipe(self):
+        past = self.past()
+        self.searched(past)
         if not search(self.host, {number_of(past.present[:8]): "the present secret"}):
             sys.exit("trace: the search does not even find the table")
 
@@ -107,7 +128,25 @@ class KeyLife(Life):
     def __init__(self, driver, draw, h1, h2):
         super().__init__(driver, draw)
         self.heights, self.seed, self.name = (h1, h2), draw.randbytes(32), f"heights {h1} and {h2}"
-        self.host.ask(MAKE, h1, h2, data=self.seed)
+        self.size = kes.signature_size(h1, h2)
+
+    def make(self, silent=0):
+        self.host.ask(MAKE, *self.heights, data=self.seed, silent=silent)
+
+    def askings(self, step):
+        """How often a move to this step asks Ed25519."""
+        h2, now = self.heights[1], self.step
+        if now >> h2 == step >> h2:
+            return 2 ** kes.highest_difference(now, step)
+        return 2 ** kes.highest_difference(now >> h2, step >> h2) + 2**h2 + 1
+
+    def fail_each(self, step):
+        """The calls that come next."""
+        self.fail(self.askings(step), lambda silent: self.host.ask(MOVE, step=step, silent=silent))
+        self.fail(1, lambda silent: self.host.ask(SIGN, data=self.draw.randbytes(40), size=self.size, silent=silent))
+
+    def fail_first(self):
+        self.fail_to_make(2 ** self.heights[0] + 2 ** self.heights[1] + 1, self.seed, self.make)
 
     def move(self, step):
         self.host.ask(MOVE, step=step)
@@ -115,7 +154,7 @@ class KeyLife(Life):
 
     def sign(self):
         message = self.draw.randbytes(40)
-        signature = self.host.ask(SIGN, data=message, size=kes.signature_size(*self.heights))
+        signature = self.host.ask(SIGN, data=message, size=self.size)
         self.signatures.append((self.step, message, signature))
 
     def past(self):
@@ -127,7 +166,16 @@ class FairLife(Life):
         super().__init__(driver, draw)
         self.master, self.seeds, self.name = draw.randbytes(32), [draw.randbytes(32) for _ in range(n)], f"a fair of {n}"
         self.vks = [sodium.public_key(seed) for seed in self.seeds]
-        self.host.ask(FAIR_MAKE, step=n, data=self.master + b"".join(self.seeds))
+
+    def make(self, silent=0):
+        self.host.ask(FAIR_MAKE, step=len(self.seeds), data=self.master + b"".join(self.seeds), silent=silent)
+
+    def fail_each(self, step):
+        """Signing; a move asks nothing."""
+        self.fail(1, lambda silent: self.host.ask(FAIR_SIGN, data=self.draw.randbytes(40), size=fair.SIGNATURE, silent=silent))
+
+    def fail_first(self):
+        self.fail_to_make(2 * len(self.seeds) + 1, self.master, self.make)
 
     def move(self, step):
         self.host.ask(FAIR_MOVE, step=step)
@@ -144,8 +192,11 @@ class FairLife(Life):
 
 def wiped_after_each_call(life, steps):
     """Answers how many words of the past were found before a wipe."""
+    life.fail_first()
+    life.make()
     life.wipe()
     for step in steps:
+        life.fail_each(step)
         life.move(step)
         life.wipe()
         life.sign()
@@ -155,6 +206,7 @@ def wiped_after_each_call(life, steps):
 
 
 def wiped_at_the_end(life, steps):
+    life.make()
     life.sign()
     for step in steps:
         life.move(step)
@@ -217,7 +269,7 @@ def main():
     draw = random.Random(1)
     with tempfile.TemporaryDirectory() as folder:
         for adapter in ("sodium", "openssl"):
-            driver = program(folder, "trace", adapter)
+            driver = program(folder, "trace", adapter, *(f"-Wl,--wrap={asking}" for asking in COUNTED[:2]))
             for h1, h2, steps in HISTORIES:
                 lived(driver, draw, KeyLife, h1, h2, steps=steps)
             for n, steps in FAIRS:

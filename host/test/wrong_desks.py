@@ -49,6 +49,9 @@ WRONG = [
     ("the next start leaves a torn line", "the journal is not good", [("tail->from + (off_t)tail->end)", "tail->from + (off_t)tail->len)")]),
     ("the next start does not name the last record", "is not named", [("    if (desk.serial > 0)\n", "    if (0)\n")]),
     ("the key stays in memory", "memory holds a secret", [("        at[i] = 0;\n", "        (void)at[i];\n")]),
+    ("the desk goes on where the module is not reached", "does not wait", [("    return silent;\n", "    return 0;\n")]),
+    ("the desk does not say that the module is not reached", "does not say", [("    if (silent && !out_of_reach)\n", "    if (0)\n")]),
+    ("the same number is asked at a second time", "at another number", [("    int silent = number == KES_UNANSWERED;\n", "    int silent = number == KES_UNANSWERED;\n    tally -= (uint64_t)silent;\n")]),
     ("the key gets its name before the journal is there", STUCK, [("    store_header();\n" + NAMED, NAMED + "    store_header();\n")]),
 ]
 
@@ -74,6 +77,7 @@ WRONG_FAIRS = [
     ("the next start leaves cache.new", "other files", [("    secret_tidy(&CACHE);\n", "    file_discard(CACHE.name_old);\n")]),
     ("the cache is zeroed under its own name", STUCK, [("    file_rename(secret->name, secret->name_old);\n    folder_sync();\n" + TIDY_OLD, "    file_discard(secret->name);\n")]),
     ("the evening leaves the cache", "other files", [("    if (fair.cache_len > 0)\n        destroy_cache();\n", "")]),
+    ("each try has a tally of its own", "at another number", [("sizeof sale->signature, module_tally());", "sizeof sale->signature, &(uint64_t){0});")]),
     ("the cache stays in memory", "memory holds a secret", [("    memory_guard(&fair, sizeof fair);\n", "")]),
 ]
 

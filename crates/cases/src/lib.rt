@@ -1,8 +1,14 @@
-// What the programs that only test share: digests of what they compare, and the words of a line.
+// What the programs that only test share: digests of what they compare, the words of a line, and tallies to call from.
 ghost use mathlib.Core.Path.{_≡_};
 ghost use lib.ListN.{replicate};
 ghost use Rattle.blake2b.specs.Calls.{hashOutcome};
 use libc::STDOUT_FILENO;
+
+// A tally from which the stand-in answers every call that a case makes.
+pub const ANSWERED: u64 = 1000;
+
+// A tally at which it is silent, with many before it at which it is not: 2^32 + 100.
+pub const SILENT: u64 = 0x1_0000_0064;
 
 // The digest of bytes, and zeros where they are too many to be hashed.
 pub fn digest(bytes: &[u8]) -> [u8; 32]

@@ -7,16 +7,17 @@ use native.Mathlib.Omega.{arith}
 use lib.Arith.{digits-div, digits-mod}
 use Rattle.refusal.specs.Numbers.{numberOf}
 use Rattle.refusal.specs.declared.Refusal.{Refusal}
-use Rattle.refusal.specs.declared.Refusal.the-variants.{Height, SeedOrKey, Table, Length, NotLater, PastEnd, TooLong, Entries}
+use Rattle.refusal.specs.declared.Refusal.the-variants.{Height, SeedOrKey, Table, Length, NotLater, PastEnd, TooLong, Entries, Unanswered}
 use Rattle.rules.specs.Answers.{Told, grownTold}
-use Rattle.rules.specs.Calls.{makeOutcome, moveOutcome}
+use Rattle.rules.specs.Calls.{makeTallied, moveTallied}
 use Rattle.rules.specs.declared.Grown.{Grown}
 use Rattle.rules.specs.declared.Grown.the-variants.{Done, Refused}
 use Rattle.rules.proofs.Positive.{make-positive, move-positive}
+use Rattle.rules.proofs.Unanswered.{make-tallied-done, move-tallied-done}
 use Rattle.edge.specs.Edge.{word, EdgeMakes, EdgeMoves}
 
 -- no refusal has the number 0, and all are small
-in-range : (why : Refusal) → (0 < numberOf why) × (numberOf why ≤ 8)
+in-range : (why : Refusal) → (0 < numberOf why) × (numberOf why ≤ 9)
 in-range Height = (omega arith, omega arith)
 in-range SeedOrKey = (omega arith, omega arith)
 in-range Table = (omega arith, omega arith)
@@ -25,6 +26,7 @@ in-range NotLater = (omega arith, omega arith)
 in-range PastEnd = (omega arith, omega arith)
 in-range TooLong = (omega arith, omega arith)
 in-range Entries = (omega arith, omega arith)
+in-range Unanswered = (omega arith, omega arith)
 
 low : (a : Grown) → grownTold a .number < 0x1_0000_0000
 low (Done n) = omega arith
@@ -49,8 +51,10 @@ counted (Refused why) f z = let r = in-range why .0 in absurd (let q : ⊥ = ome
 done-counts : {w : ℕ} (a : Grown) → w ≡ word (grownTold a) → ((n : ℕ) → a ≡ Done n → 0 < n) → w % 0x1_0000_0000 ≡ 0 → 0 < w / 0x1_0000_0000
 done-counts a e f z = rw (word-count a e) (counted a f (sym (word-number a e) ∙ z))
 
-pub make-counts : (h1 h2 : ℕ) (s d : List ℕ) {w : ℕ} {s′ d′ : List ℕ} → EdgeMakes h1 h2 s d w s′ d′ → w % 0x1_0000_0000 ≡ 0 → 0 < w / 0x1_0000_0000
-make-counts h1 h2 s d m z = done-counts (makeOutcome h1 h2 s d .answer) (m .answers) (λ n e. make-positive h1 h2 s d e) z
+pub make-counts : (h1 h2 : ℕ) (s d : List ℕ) (t : ℕ) {w : ℕ} {s′ d′ : List ℕ} {t′ : ℕ} → EdgeMakes h1 h2 s d t w s′ d′ t′ → w % 0x1_0000_0000 ≡ 0
+    → 0 < w / 0x1_0000_0000
+make-counts h1 h2 s d t m z =
+    done-counts (makeTallied h1 h2 s d t .answer) (m .answers) (λ n e. make-positive h1 h2 s d (make-tallied-done h1 h2 s d t e)) z
 
-pub move-counts : (d : List ℕ) (t : ℕ) {w : ℕ} {d′ : List ℕ} → EdgeMoves d t w d′ → w % 0x1_0000_0000 ≡ 0 → 0 < w / 0x1_0000_0000
-move-counts d t m z = done-counts (moveOutcome d t .answer) (m .answers) (λ n e. move-positive d t e) z
+pub move-counts : (d : List ℕ) (b t : ℕ) {w : ℕ} {d′ : List ℕ} {t′ : ℕ} → EdgeMoves d b t w d′ t′ → w % 0x1_0000_0000 ≡ 0 → 0 < w / 0x1_0000_0000
+move-counts d b t m z = done-counts (moveTallied d b t .answer) (m .answers) (λ n e. move-positive d b (move-tallied-done d b t e)) z

@@ -1,4 +1,4 @@
--- No second outcome fits the contract of a C call: for one input, two answers with end values that both fit are the same.
+-- No second outcome fits the contract of a C call: for one input and one tally at entry, two answers with end values that both fit are the same.
 use mathlib.Core.Path.{_≡_, sym, _∙_}
 use mathlib.Core.List.{List}
 use Prim.Native.Nat.{ℕ}
@@ -9,23 +9,30 @@ use Rattle.edge.specs.EdgeFair.{EdgeFairMakes, EdgeFairMoves, EdgeFairSi
 joined : {A : Type 0} {x y z : A} → x ≡ z → y ≡ z → x ≡ y
 joined p q = p ∙ sym q
 
-pub make-once : (h1 h2 : ℕ) (s d : List ℕ) {a b : ℕ} {s₁ s₂ d₁ d₂ : List ℕ} → EdgeMakes h1 h2 s d a s₁ d₁ → EdgeMakes h1 h2 s d b s₂ d₂
-    → (a ≡ b) × (s₁ ≡ s₂) × (d₁ ≡ d₂)
-make-once h1 h2 s d x y = (joined (x .answers) (y .answers), joined (x .zeroes) (y .zeroes), joined (x .leaves) (y .leaves))
+pub make-once : (h1 h2 : ℕ) (s d : List ℕ) (t : ℕ) {a b : ℕ} {s₁ s₂ d₁ d₂ : List ℕ} {t₁ t₂ : ℕ} → EdgeMakes h1 h2 s d t a s₁ d₁ t₁
+    → EdgeMakes h1 h2 s d t b s₂ d₂ t₂ → (a ≡ b) × (s₁ ≡ s₂) × (d₁ ≡ d₂) × (t₁ ≡ t₂)
+make-once h1 h2 s d t x y = (
+  joined (x .answers) (y .answers),
+  joined (x .zeroes) (y .zeroes),
+  joined (x .leaves) (y .leaves),
+  joined (x .tallies) (y .tallies),
+)
 
 pub key-once : (d out : List ℕ) {a b : ℕ} {d₁ d₂ o₁ o₂ : List ℕ} → EdgeReads d out a d₁ o₁ → EdgeReads d out b d₂ o₂ → (a ≡ b) × (d₁ ≡ d₂) × (o₁ ≡ o₂)
 key-once d out x y = (joined (x .numbers) (y .numbers), joined (x .keeps) (y .keeps), joined (x .leaves) (y .leaves))
 
-pub move-once : (d : List ℕ) (t : ℕ) {a b : ℕ} {d₁ d₂ : List ℕ} → EdgeMoves d t a d₁ → EdgeMoves d t b d₂ → (a ≡ b) × (d₁ ≡ d₂)
-move-once d t x y = (joined (x .answers) (y .answers), joined (x .leaves) (y .leaves))
+pub move-once : (d : List ℕ) (step t : ℕ) {a b : ℕ} {d₁ d₂ : List ℕ} {t₁ t₂ : ℕ} → EdgeMoves d step t a d₁ t₁ → EdgeMoves d step t b d₂ t₂
+    → (a ≡ b) × (d₁ ≡ d₂) × (t₁ ≡ t₂)
+move-once d step t x y = (joined (x .answers) (y .answers), joined (x .leaves) (y .leaves), joined (x .tallies) (y .tallies))
 
-pub sign-once : (d m out : List ℕ) {a b : ℕ} {d₁ d₂ m₁ m₂ o₁ o₂ : List ℕ} → EdgeSigns d m out a d₁ m₁ o₁ → EdgeSigns d m out b d₂ m₂ o₂
-    → (a ≡ b) × (d₁ ≡ d₂) × (m₁ ≡ m₂) × (o₁ ≡ o₂)
-sign-once d m out x y = (
+pub sign-once : (d m out : List ℕ) (t : ℕ) {a b : ℕ} {d₁ d₂ m₁ m₂ o₁ o₂ : List ℕ} {t₁ t₂ : ℕ} → EdgeSigns d m out t a d₁ m₁ o₁ t₁
+    → EdgeSigns d m out t b d₂ m₂ o₂ t₂ → (a ≡ b) × (d₁ ≡ d₂) × (m₁ ≡ m₂) × (o₁ ≡ o₂) × (t₁ ≡ t₂)
+sign-once d m out t x y = (
   joined (x .numbers) (y .numbers),
   joined (x .keeps-table) (y .keeps-table),
   joined (x .keeps-message) (y .keeps-message),
   joined (x .leaves) (y .leaves),
+  joined (x .tallies) (y .tallies),
 )
 
 pub verify-once : (h1 h2 : ℕ) (k : List ℕ) (t : ℕ) (m g : List ℕ) {a b : ℕ} {k₁ k₂ m₁ m₂ g₁ g₂ : List ℕ} → EdgeVerifies h1 h2 k t m g a k₁ m₁ g₁
@@ -41,26 +48,29 @@ pub hash-once : (m out : List ℕ) {a b : ℕ} {m₁ m₂ o₁ o₂ : List ℕ} 
 hash-once m out x y = (joined (x .numbers) (y .numbers), joined (x .keeps) (y .keeps), joined (x .leaves) (y .leaves))
 
 -- a fair day's four
-pub fair-make-once : (n : ℕ) (s ss d k : List ℕ) {a b : ℕ} {s₁ s₂ ss₁ ss₂ d₁ d₂ k₁ k₂ : List ℕ} → EdgeFairMakes n s ss d k a s₁ ss₁ d₁ k₁
-    → EdgeFairMakes n s ss d k b s₂ ss₂ d₂ k₂ → (a ≡ b) × (s₁ ≡ s₂) × (ss₁ ≡ ss₂) × (d₁ ≡ d₂) × (k₁ ≡ k₂)
-fair-make-once n s ss d k x y = (
+pub fair-make-once : (n : ℕ) (s ss d k : List ℕ) (t : ℕ) {a b : ℕ} {s₁ s₂ ss₁ ss₂ d₁ d₂ k₁ k₂ : List ℕ} {t₁ t₂ : ℕ}
+    → EdgeFairMakes n s ss d k t a s₁ ss₁ d₁ k₁ t₁ → EdgeFairMakes n s ss d k t b s₂ ss₂ d₂ k₂ t₂
+    → (a ≡ b) × (s₁ ≡ s₂) × (ss₁ ≡ ss₂) × (d₁ ≡ d₂) × (k₁ ≡ k₂) × (t₁ ≡ t₂)
+fair-make-once n s ss d k t x y = (
   joined (x .numbers) (y .numbers),
   joined (x .zeroes-master) (y .zeroes-master),
   joined (x .zeroes-seeds) (y .zeroes-seeds),
   joined (x .leaves) (y .leaves),
   joined (x .writes-key) (y .writes-key),
+  joined (x .tallies) (y .tallies),
 )
 
 pub fair-move-once : (d : List ℕ) (t : ℕ) {a b : ℕ} {d₁ d₂ : List ℕ} → EdgeFairMoves d t a d₁ → EdgeFairMoves d t b d₂ → (a ≡ b) × (d₁ ≡ d₂)
 fair-move-once d t x y = (joined (x .numbers) (y .numbers), joined (x .leaves) (y .leaves))
 
-pub fair-sign-once : (d m out : List ℕ) {a b : ℕ} {d₁ d₂ m₁ m₂ o₁ o₂ : List ℕ} → EdgeFairSigns d m out a d₁ m₁ o₁ → EdgeFairSigns d m out b d₂ m₂ o₂
-    → (a ≡ b) × (d₁ ≡ d₂) × (m₁ ≡ m₂) × (o₁ ≡ o₂)
-fair-sign-once d m out x y = (
+pub fair-sign-once : (d m out : List ℕ) (t : ℕ) {a b : ℕ} {d₁ d₂ m₁ m₂ o₁ o₂ : List ℕ} {t₁ t₂ : ℕ} → EdgeFairSigns d m out t a d₁ m₁ o₁ t₁
+    → EdgeFairSigns d m out t b d₂ m₂ o₂ t₂ → (a ≡ b) × (d₁ ≡ d₂) × (m₁ ≡ m₂) × (o₁ ≡ o₂) × (t₁ ≡ t₂)
+fair-sign-once d m out t x y = (
   joined (x .numbers) (y .numbers),
   joined (x .keeps-cache) (y .keeps-cache),
   joined (x .keeps-message) (y .keeps-message),
   joined (x .leaves) (y .leaves),
+  joined (x .tallies) (y .tallies),
 )
 
 pub fair-verify-once : (n : ℕ) (k : List ℕ) (t : ℕ) (m g : List ℕ) {a b : ℕ} {k₁ k₂ m₁ m₂ g₁ g₂ : List ℕ} → EdgeFairVerifies n k t m g a k₁ m₁ g₁

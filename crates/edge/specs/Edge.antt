@@ -4,31 +4,35 @@ use mathlib.Core.Path.{_≡_}
 use mathlib.Core.List.{List}
 use Rattle.blake2b.specs.Calls as blake2b
 use Rattle.rules.specs.Answers.{Told, grownTold, answerNumber, verdictNumber}
-use Rattle.rules.specs.Calls.{makeOutcome, keyOutcome, moveOutcome, signOutcome, verifyOutcome}
+use Rattle.rules.specs.Calls.{makeOutcome, makeTallied, keyOutcome, moveOutcome, moveTallied, signOutcome, signTallied, verifyOutcome}
+use Rattle.ed25519.specs.Tally.{Run, asked}
 
 -- make and move answer number + 2^32 * count
 abbrev pub word : Told → ℕ
 word x = x .number + 0x1_0000_0000 * x .count
 
-pub record EdgeMakes (h1 h2 : ℕ) (s d : List ℕ) (answer : ℕ) (s′ d′ : List ℕ) : Type 0 where
-  pub answers : answer ≡ word (grownTold (makeOutcome h1 h2 s d .answer))
-  pub zeroes : s′ ≡ makeOutcome h1 h2 s d .seed
-  pub leaves : d′ ≡ makeOutcome h1 h2 s d .table
+pub record EdgeMakes (h1 h2 : ℕ) (s d : List ℕ) (t answer : ℕ) (s′ d′ : List ℕ) (t′ : ℕ) : Type 0 where
+  pub answers : answer ≡ word (grownTold (makeTallied h1 h2 s d t .answer))
+  pub zeroes : s′ ≡ makeTallied h1 h2 s d t .seed
+  pub leaves : d′ ≡ makeTallied h1 h2 s d t .table
+  pub tallies : t′ ≡ asked (makeOutcome h1 h2 s d .calls) t .tally
 
 pub record EdgeReads (d out : List ℕ) (number : ℕ) (d′ out′ : List ℕ) : Type 0 where
   pub numbers : number ≡ answerNumber (keyOutcome d out .answer)
   pub keeps : d′ ≡ keyOutcome d out .table
   pub leaves : out′ ≡ keyOutcome d out .out
 
-pub record EdgeMoves (d : List ℕ) (b answer : ℕ) (d′ : List ℕ) : Type 0 where
-  pub answers : answer ≡ word (grownTold (moveOutcome d b .answer))
-  pub leaves : d′ ≡ moveOutcome d b .table
+pub record EdgeMoves (d : List ℕ) (b t answer : ℕ) (d′ : List ℕ) (t′ : ℕ) : Type 0 where
+  pub answers : answer ≡ word (grownTold (moveTallied d b t .answer))
+  pub leaves : d′ ≡ moveTallied d b t .table
+  pub tallies : t′ ≡ asked (moveOutcome d b .calls) t .tally
 
-pub record EdgeSigns (d m out : List ℕ) (number : ℕ) (d′ m′ out′ : List ℕ) : Type 0 where
-  pub numbers : number ≡ answerNumber (signOutcome d m out .answer)
-  pub keeps-table : d′ ≡ signOutcome d m out .table
-  pub keeps-message : m′ ≡ signOutcome d m out .message
-  pub leaves : out′ ≡ signOutcome d m out .out
+pub record EdgeSigns (d m out : List ℕ) (t number : ℕ) (d′ m′ out′ : List ℕ) (t′ : ℕ) : Type 0 where
+  pub numbers : number ≡ answerNumber (signTallied d m out t .answer)
+  pub keeps-table : d′ ≡ signTallied d m out t .table
+  pub keeps-message : m′ ≡ signTallied d m out t .message
+  pub leaves : out′ ≡ signTallied d m out t .out
+  pub tallies : t′ ≡ asked (signOutcome d m out .calls) t .tally
 
 pub record EdgeVerifies (h1 h2 : ℕ) (k : List ℕ) (t : ℕ) (m x : List ℕ) (number : ℕ) (k′ m′ x′ : List ℕ) : Type 0 where
   pub numbers : number ≡ verdictNumber (verifyOutcome h1 h2 k t m x .answer)

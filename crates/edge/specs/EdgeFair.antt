@@ -1,26 +1,29 @@
--- The contracts of the C edge of a fair day's cache: the number for each call's outcome, and the end value of every slice lent.
+-- The contracts of the C edge of a fair day's cache: the number for each call's outcome, and the end value of every slice and tally lent.
 use Prim.Native.Nat.{ℕ}
 use mathlib.Core.Path.{_≡_}
 use mathlib.Core.List.{List}
 use Rattle.rules.specs.Answers.{answerNumber, verdictNumber}
-use Rattle.fair.specs.Calls.{makeOutcome, moveOutcome, signOutcome, verifyOutcome}
+use Rattle.ed25519.specs.Tally.{Run, asked}
+use Rattle.fair.specs.Calls.{makeOutcome, makeTallied, moveOutcome, signOutcome, signTallied, verifyOutcome}
 
-pub record EdgeFairMakes (n : ℕ) (a ss d k : List ℕ) (number : ℕ) (a′ ss′ d′ k′ : List ℕ) : Type 0 where
-  pub numbers : number ≡ answerNumber (makeOutcome n a ss d k .answer)
-  pub zeroes-master : a′ ≡ makeOutcome n a ss d k .master
-  pub zeroes-seeds : ss′ ≡ makeOutcome n a ss d k .seeds
-  pub leaves : d′ ≡ makeOutcome n a ss d k .cache
-  pub writes-key : k′ ≡ makeOutcome n a ss d k .key
+pub record EdgeFairMakes (n : ℕ) (a ss d k : List ℕ) (t number : ℕ) (a′ ss′ d′ k′ : List ℕ) (t′ : ℕ) : Type 0 where
+  pub numbers : number ≡ answerNumber (makeTallied n a ss d k t .answer)
+  pub zeroes-master : a′ ≡ makeTallied n a ss d k t .master
+  pub zeroes-seeds : ss′ ≡ makeTallied n a ss d k t .seeds
+  pub leaves : d′ ≡ makeTallied n a ss d k t .cache
+  pub writes-key : k′ ≡ makeTallied n a ss d k t .key
+  pub tallies : t′ ≡ asked (makeOutcome n a ss d k .calls) t .tally
 
 pub record EdgeFairMoves (d : List ℕ) (t number : ℕ) (d′ : List ℕ) : Type 0 where
   pub numbers : number ≡ answerNumber (moveOutcome d t .answer)
   pub leaves : d′ ≡ moveOutcome d t .cache
 
-pub record EdgeFairSigns (d m out : List ℕ) (number : ℕ) (d′ m′ out′ : List ℕ) : Type 0 where
-  pub numbers : number ≡ answerNumber (signOutcome d m out .answer)
-  pub keeps-cache : d′ ≡ signOutcome d m out .cache
-  pub keeps-message : m′ ≡ signOutcome d m out .message
-  pub leaves : out′ ≡ signOutcome d m out .out
+pub record EdgeFairSigns (d m out : List ℕ) (t number : ℕ) (d′ m′ out′ : List ℕ) (t′ : ℕ) : Type 0 where
+  pub numbers : number ≡ answerNumber (signTallied d m out t .answer)
+  pub keeps-cache : d′ ≡ signTallied d m out t .cache
+  pub keeps-message : m′ ≡ signTallied d m out t .message
+  pub leaves : out′ ≡ signTallied d m out t .out
+  pub tallies : t′ ≡ asked (signOutcome d m out .calls) t .tally
 
 pub record EdgeFairVerifies (n : ℕ) (k : List ℕ) (t : ℕ) (m x : List ℕ) (number : ℕ) (k′ m′ x′ : List ℕ) : Type 0 where
   pub numbers : number ≡ verdictNumber (verifyOutcome n k t m x .answer)

@@ -10,11 +10,12 @@ pub extern "C" fn kes_fair_make(
     seeds: &mut [u8],
     cache: &mut [u8],
     key: &mut [u8],
+    tally: &mut u64,
 ) -> u32
-    ensures { λ r. ⌜ EdgeFairMakes n (now (master .entry)) (now (seeds .entry)) (now (cache .entry)) (now (key .entry)) r
-        (now (master .exit)) (now (seeds .exit)) (now (cache .exit)) (now (key .exit)) ⌝ }
+    ensures { λ r. ⌜ EdgeFairMakes n (now (master .entry)) (now (seeds .entry)) (now (cache .entry)) (now (key .entry)) (now (tally .entry)) r
+        (now (master .exit)) (now (seeds .exit)) (now (cache .exit)) (now (key .exit)) (now (tally .exit)) ⌝ }
 {
-    answered(fair::make(n, master, seeds, cache, key))
+    answered(fair::make(n, master, seeds, cache, key, tally))
 }
 
 #[no_mangle]
@@ -25,11 +26,16 @@ pub extern "C" fn kes_fair_move(cache: &mut [u8], step: u64) -> u32
 }
 
 #[no_mangle]
-pub extern "C" fn kes_fair_sign(cache: &[u8], message: &[u8], signature: &mut [u8]) -> u32
-    ensures { λ r. ⌜ EdgeFairSigns (now (cache .entry)) (now (message .entry)) (now (signature .entry)) r
-        (now (cache .exit)) (now (message .exit)) (now (signature .exit)) ⌝ }
+pub extern "C" fn kes_fair_sign(
+    cache: &[u8],
+    message: &[u8],
+    signature: &mut [u8],
+    tally: &mut u64,
+) -> u32
+    ensures { λ r. ⌜ EdgeFairSigns (now (cache .entry)) (now (message .entry)) (now (signature .entry)) (now (tally .entry)) r
+        (now (cache .exit)) (now (message .exit)) (now (signature .exit)) (now (tally .exit)) ⌝ }
 {
-    answered(fair::sign(cache, message, signature))
+    answered(fair::sign(cache, message, signature, tally))
 }
 
 #[no_mangle]

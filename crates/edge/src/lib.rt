@@ -9,10 +9,16 @@ use crate::numbers::judged;
 use key::Grown;
 
 #[no_mangle]
-pub extern "C" fn kes_make(h1: u64, h2: u64, seed: &mut [u8], table: &mut [u8]) -> u64
-    ensures { λ r. ⌜ EdgeMakes h1 h2 (now (seed .entry)) (now (table .entry)) r (now (seed .exit)) (now (table .exit)) ⌝ }
+pub extern "C" fn kes_make(
+    h1: u64,
+    h2: u64,
+    seed: &mut [u8],
+    table: &mut [u8],
+    tally: &mut u64,
+) -> u64
+    ensures { λ r. ⌜ EdgeMakes h1 h2 (now (seed .entry)) (now (table .entry)) (now (tally .entry)) r (now (seed .exit)) (now (table .exit)) (now (tally .exit)) ⌝ }
 {
-    match key::make(h1, h2, seed, table) {
+    match key::make(h1, h2, seed, table, tally) {
         Grown::Done(count) => count * 0x1_0000_0000,
         Grown::Refused(why) => refusal::number(why) as u64,
     }
@@ -26,20 +32,25 @@ pub extern "C" fn kes_read_key(table: &[u8], key: &mut [u8]) -> u32
 }
 
 #[no_mangle]
-pub extern "C" fn kes_move(table: &mut [u8], step: u64) -> u64
-    ensures { λ r. ⌜ EdgeMoves (now (table .entry)) step r (now (table .exit)) ⌝ }
+pub extern "C" fn kes_move(table: &mut [u8], step: u64, tally: &mut u64) -> u64
+    ensures { λ r. ⌜ EdgeMoves (now (table .entry)) step (now (tally .entry)) r (now (table .exit)) (now (tally .exit)) ⌝ }
 {
-    match key::move_to(table, step) {
+    match key::move_to(table, step, tally) {
         Grown::Done(count) => count * 0x1_0000_0000,
         Grown::Refused(why) => refusal::number(why) as u64,
     }
 }
 
 #[no_mangle]
-pub extern "C" fn kes_sign(table: &[u8], message: &[u8], signature: &mut [u8]) -> u32
-    ensures { λ r. ⌜ EdgeSigns (now (table .entry)) (now (message .entry)) (now (signature .entry)) r (now (table .exit)) (now (message .exit)) (now (signature .exit)) ⌝ }
+pub extern "C" fn kes_sign(
+    table: &[u8],
+    message: &[u8],
+    signature: &mut [u8],
+    tally: &mut u64,
+) -> u32
+    ensures { λ r. ⌜ EdgeSigns (now (table .entry)) (now (message .entry)) (now (signature .entry)) (now (tally .entry)) r (now (table .exit)) (now (message .exit)) (now (signature .exit)) (now (tally .exit)) ⌝ }
 {
-    answered(key::sign(table, message, signature))
+    answered(key::sign(table, message, signature, tally))
 }
 
 #[no_mangle]

@@ -2,21 +2,22 @@
 -- its lemma.
 use mathlib.Core.Path.{_≡_, refl, sym, ap, _∙_}
 use mathlib.Core.List.{List, [], _∷_, _++_}
-use mathlib.Core.Bool.{_&&_}
+use mathlib.Core.Bool.{true, false, _&&_}
 use Prim.Native.Nat.{ℕ}
 use native.Mathlib.Omega.{arith}
 use lib.ListN.{getD, replicate}
 use Rattle.fields.specs.Numbers.{twoIn}
 use Rattle.fields.specs.Tests.{pick}
 use Rattle.ed25519.specs.Ed25519.{accepts}
-use Rattle.refusal.specs.declared.Refusal.the-variants.{SeedOrKey, Table, Length, PastEnd, TooLong, Entries}
+use Rattle.ed25519.specs.Tally.{Run, asked}
+use Rattle.refusal.specs.declared.Refusal.the-variants.{SeedOrKey, Table, Length, PastEnd, TooLong, Entries, Unanswered}
 use Rattle.rules.specs.declared.Answer.{Answer}
 use Rattle.rules.specs.declared.Answer.the-variants as answer
 use Rattle.rules.specs.declared.Verdict.{Verdict}
 use Rattle.rules.specs.declared.Verdict.the-variants as verdict
 use Rattle.fair.specs.Entries.{vouched, entrySignature, fairVerdict}
 use Rattle.fair.specs.Cache.{header, headerBytes, headerIn, wellFormed, headerOf, cleared, movedBody}
-use Rattle.fair.specs.Calls.{Makes, makeOutcome, Moves, moveUnder, moveOutcome, Signs, signUnder, signOutcome, Verifies, VerifyOutcome, verdictOf, verifyOutcome}
+use Rattle.fair.specs.Calls.{Makes, makeOutcome, makeTallied, Moves, moveUnder, moveOutcome, Signs, signUnder, signOutcome, signTallied, Verifies, VerifyOutcome, verdictOf, verifyOutcome}
 
 -- a cache of two entries at step t, every byte of them x
 unfoldable pub plain : ℕ → ℕ → List ℕ
@@ -43,11 +44,11 @@ unfolding headerBytes moveOutcome moveUnder headerOf wellFormed headerIn twoIn m
 not-from-the-old-step r d m = ap (λ (x : List ℕ). getD x 4 0) (m .leaves)
 
 -- Two caches with other entries sign one message otherwise: no signature is fixed.
-pub not-fixed : (y : List ℕ) {r₁ r₂ : Answer} {d₁ d₂ m₁ m₂ : List ℕ} → Signs (plain 0 7) [] (replicate 160 0) r₁ d₁ m₁ y
-    → Signs (plain 0 8) [] (replicate 160 0) r₂ d₂ m₂ y → ⊥
-unfolding plain headerBytes signOutcome signUnder headerOf wellFormed headerIn twoIn entrySignature
-not-fixed y p q =
-    let e : _≡_ {A = ℕ} 7 8 = ap (λ (d : List ℕ). getD d 0 0) (sym (p .leaves) ∙ q .leaves) in
+pub not-fixed : (y : List ℕ) (t : ℕ) → asked 1 t .given ≡ true → {r₁ r₂ : Answer} {d₁ d₂ m₁ m₂ : List ℕ} {t₁ t₂ : ℕ}
+    → Signs (plain 0 7) [] (replicate 160 0) t r₁ d₁ m₁ y t₁ → Signs (plain 0 8) [] (replicate 160 0) t r₂ d₂ m₂ y t₂ → ⊥
+unfolding plain headerBytes signTallied signOutcome signUnder headerOf wellFormed headerIn twoIn entrySignature
+not-fixed y t g p q =
+    let e : _≡_ {A = ℕ} 7 8 = ap (λ (d : List ℕ). getD d 0 0) (sym (rw g at (p .leaves)) ∙ (rw g at (q .leaves))) in
     omega arith
 
 -- The verdict is Ed25519's on both signatures, each under its key and over its text: none is fixed, and neither is left out.
@@ -57,32 +58,38 @@ pub decided : verifyOutcome 6 (replicate 32 1) 5 [] (replicate 64 2 ++ (replicat
 unfolding verifyOutcome verdictOf fairVerdict vouched
 decided = refl
 
--- Making zeroes the master seed and the seeds: it leaves none where they were lent.
-pub not-left : {r : Answer} {a ss d k : List ℕ} → Makes 1 (replicate 32 7) (replicate 32 8) (replicate 132 0) (replicate 32 0) r a ss d k
-    → (a ≡ replicate 32 0) × (ss ≡ replicate 32 0)
-unfolding makeOutcome cleared
-not-left m = (m .zeroes-master, m .zeroes-seeds)
+-- Making zeroes the master seed and the seeds: it leaves none where they were lent. It gives 9 where one of its three calls is not answered, and nowhere else;
+-- then it leaves all.
+module _ {t : ℕ} {r : Answer} {a ss d k : List ℕ} {t′ : ℕ} (m : Makes 1 (replicate 32 7) (replicate 32 8) (replicate 132 0) (replicate 32 0) t r a ss d k t′) where
+  pub not-left : asked 3 t .given ≡ true → (r ≡ answer.Done) × (a ≡ replicate 32 0) × (ss ≡ replicate 32 0)
+  unfolding makeTallied makeOutcome cleared
+  not-left g = (rw g at (m .answers), rw g at (m .zeroes-master), rw g at (m .zeroes-seeds))
+
+  pub make-9 : asked 3 t .given ≡ false
+      → (r ≡ answer.Refused Unanswered) × (a ≡ replicate 32 7) × (ss ≡ replicate 32 8) × (d ≡ replicate 132 0) × (k ≡ replicate 32 0)
+  unfolding makeTallied makeOutcome
+  make-9 g = (rw g at (m .answers), rw g at (m .zeroes-master), rw g at (m .zeroes-seeds), rw g at (m .leaves), rw g at (m .writes-key))
 
 -- make: 8 before 2, at both ends; 2 before 4, for the master and for the seeds
-module _ {r : Answer} {a ss d k : List ℕ} where
-  pub make-8-2 : Makes 257 [] [] [] [] r a ss d k → r ≡ answer.Refused Entries
-  unfolding makeOutcome
+module _ {t : ℕ} {r : Answer} {a ss d k : List ℕ} {t′ : ℕ} where
+  pub make-8-2 : Makes 257 [] [] [] [] t r a ss d k t′ → r ≡ answer.Refused Entries
+  unfolding asked makeTallied makeOutcome
   make-8-2 m = m .answers
 
-  pub make-8-none : Makes 0 (replicate 32 0) [] (replicate 4 0) (replicate 32 0) r a ss d k → r ≡ answer.Refused Entries
-  unfolding makeOutcome
+  pub make-8-none : Makes 0 (replicate 32 0) [] (replicate 4 0) (replicate 32 0) t r a ss d k t′ → r ≡ answer.Refused Entries
+  unfolding asked makeTallied makeOutcome
   make-8-none m = m .answers
 
-  pub make-2-4 : Makes 1 [] [] [] [] r a ss d k → r ≡ answer.Refused SeedOrKey
-  unfolding makeOutcome
+  pub make-2-4 : Makes 1 [] [] [] [] t r a ss d k t′ → r ≡ answer.Refused SeedOrKey
+  unfolding asked makeTallied makeOutcome
   make-2-4 m = m .answers
 
-  pub make-2-seeds : Makes 1 (replicate 32 0) (replicate 31 0) [] [] r a ss d k → r ≡ answer.Refused SeedOrKey
-  unfolding makeOutcome
+  pub make-2-seeds : Makes 1 (replicate 32 0) (replicate 31 0) [] [] t r a ss d k t′ → r ≡ answer.Refused SeedOrKey
+  unfolding asked makeTallied makeOutcome
   make-2-seeds m = m .answers
 
-  pub make-4-key : Makes 1 (replicate 32 0) (replicate 32 0) (replicate 132 0) [] r a ss d k → r ≡ answer.Refused Length
-  unfolding makeOutcome
+  pub make-4-key : Makes 1 (replicate 32 0) (replicate 32 0) (replicate 132 0) [] t r a ss d k t′ → r ≡ answer.Refused Length
+  unfolding asked makeTallied makeOutcome
   make-4-key m = m .answers
 
 -- move: 3 before 6 (6 and 5 never meet); a move to N is 6
@@ -104,13 +111,13 @@ unfolding headerBytes moveOutcome moveUnder headerOf wellFormed headerIn twoIn
 move-3-none m = m .answers
 
 -- sign: 3 before 7, 7 before 4
-module _ {r : Answer} {d m out : List ℕ} where
-  pub sign-3-7 : Signs [] (replicate 4097 0) [] r d m out → r ≡ answer.Refused Table
-  unfolding signOutcome signUnder headerOf wellFormed
+module _ {t : ℕ} {r : Answer} {d m out : List ℕ} {t′ : ℕ} where
+  pub sign-3-7 : Signs [] (replicate 4097 0) [] t r d m out t′ → r ≡ answer.Refused Table
+  unfolding asked signTallied signOutcome signUnder headerOf wellFormed
   sign-3-7 p = p .answers
 
-  pub sign-7-4 : Signs (plain 0 7) (replicate 4097 0) [] r d m out → r ≡ answer.Refused TooLong
-  unfolding plain headerBytes signOutcome signUnder headerOf wellFormed headerIn twoIn
+  pub sign-7-4 : Signs (plain 0 7) (replicate 4097 0) [] t r d m out t′ → r ≡ answer.Refused TooLong
+  unfolding plain headerBytes asked signTallied signOutcome signUnder headerOf wellFormed headerIn twoIn
   sign-7-4 p = p .answers
 
 -- verify: 8 before 2, 2 before 4, 4 before 7, 7 before 6; and a step at N is refused

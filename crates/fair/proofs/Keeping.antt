@@ -96,7 +96,7 @@ module _ (n : ℕ) (a ss : List ℕ) (some : 1 ≤ n) (few : n ≤ most) (ba : B
         rw (laid-body (header n t) (movedBody (entries a ss n) t), behind (entries a ss n) t t (omega arith)) (entry-at t u)
 
     sign-at : (m out : List ℕ) → length m ≤ limit → length out ≡ signatureSize
-        → signOutcome (cacheAt t) m out ≡ record { answer = answer.Done; cache = cacheAt t; message = m; out = entrySignature (each t) m }
+        → signOutcome (cacheAt t) m out ≡ record { calls = 1; answer = answer.Done; cache = cacheAt t; message = m; out = entrySignature (each t) m }
     unfolding signOutcome signUnder
     sign-at m out lm lo = rw (header-at, le-ltb limit (length m) lm, eq-eqb (length out) signatureSize lo, present)
 

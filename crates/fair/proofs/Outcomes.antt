@@ -1,19 +1,20 @@
 -- The contract of each call in each of its cases, from what its checks and calls say on the way to that return.
 use mathlib.Core.Path.{_≡_, refl, sym, ap, _∙_}
 use mathlib.Core.List.{List, _++_}
-use mathlib.Core.Bool.{Bool, true, false}
+use mathlib.Core.Bool.{Bool, true, false, not}
 use Prim.Native.Nat.{ℕ, _+_, _-_, _*_, _≤_, _<_}
 use native.Mathlib.Omega.{arith}
-use lib.ListN.{length, take, drop, replicate}
+use lib.ListN.{length, take, drop, replicate, take-append-drop}
 use lib.Seq.{take-all, drop-drop, drop-at, length-take-le}
-use borrow.Author.Tests.{le-ltb, lt-ltb, le-leb, lt-leb, eq-eqb, ne-eqb}
+use borrow.Author.Tests.{le-ltb, lt-ltb, le-leb, lt-leb, eq-eqb, ne-eqb, not-true, not-false}
 use Rattle.fields.specs.Fields.{part, put}
-use Rattle.fields.proofs.Laws.{length-part, put-whole, drop-back}
+use Rattle.fields.proofs.Laws.{length-part, tail-whole, tail-back, drop-back}
 use Rattle.fields.specs.Tests.{pick}
 use Rattle.blake2b.specs.Calls.{limit}
 use Rattle.ed25519.specs.Ed25519.{publicKey}
+use Rattle.ed25519.specs.Tally.{Run, asked, Asks, Leaves}
 use Rattle.refusal.specs.declared.Refusal.{Refusal}
-use Rattle.refusal.specs.declared.Refusal.the-variants.{SeedOrKey, Length, NotLater, PastEnd, TooLong, Entries}
+use Rattle.refusal.specs.declared.Refusal.the-variants.{SeedOrKey, Length, NotLater, PastEnd, TooLong, Entries, Unanswered}
 use Rattle.rules.specs.declared.Answer.{Answer}
 use Rattle.rules.specs.declared.Answer.the-variants as answer
 use Rattle.rules.specs.declared.Verdict.{Verdict}
@@ -21,13 +22,17 @@ use Rattle.rules.specs.declared.Verdict.the-variants as verdict
 use Rattle.fair.specs.Entries.{entrySize, entries, signatureSize, entrySignature, fairVerdict}
 use Rattle.fair.specs.Cache.{outside, headerSize, cacheSize, cleared, header, headerBytes, bodyIn, headerOf, movedBody}
 use Rattle.fair.specs.Inside.{answerOf}
-use Rattle.fair.specs.Calls.{Makes, MakeOutcome, notMade, made, makeOutcome}
+use Rattle.fair.specs.Calls.{Makes, MakeOutcome, notMade, made, makeOutcome, makeTallied}
 use Rattle.fair.specs.Calls.{Moves, MoveOutcome, notMoved, moved, moveUnder, moveOutcome}
-use Rattle.fair.specs.Calls.{Signs, SignOutcome, notSigned, signed, signUnder, signOutcome}
+use Rattle.fair.specs.Calls.{Signs, SignOutcome, notSigned, signed, signUnder, signOutcome, signTallied}
 use Rattle.fair.specs.Calls.{Verifies, verdictOf, verifyOutcome}
 use Rattle.fair.specs.declared.header.Header.{Header}
 use Rattle.fair.specs.declared.header.Found.{Found}
 use Rattle.fair.specs.declared.header.Found.the-variants as found
+
+-- a cache d whose part behind the header was lent and came back as ys
+abbrev pub relaid : List ℕ → List ℕ → List ℕ
+relaid d ys = take headerSize d ++ (ys ++ drop (length d - headerSize) (drop headerSize d))
 
 -- move
 module _ (d : List ℕ) (t : ℕ) where
@@ -60,41 +65,55 @@ module _ (d : List ℕ) (t : ℕ) where
           moves (moved x t d) (rw (← e, g, lt-leb (x .entries) t u, lt-leb t (x .step) p)) refl
           (ed ∙ rw (drop-at (take headerSize d) (ys ++ drop (headerSize + entrySize * t - headerSize) (drop headerSize d)) headerSize (length-take-le headerSize d (omega arith)), ey, n, length-part d headerSize (entrySize * t) l))
 
--- sign
-module _ (d m out : List ℕ) where
-  signs : (o : SignOutcome) {r : Answer} {d′ m′ out′ : List ℕ} → signOutcome d m out ≡ o → r ≡ o .answer → d′ ≡ o .cache → m′ ≡ o .message → out′ ≡ o .out
-      → Signs d m out r d′ m′ out′
-  signs o e er ed em eo =
-      record {
-        answers = er ∙ ap (λ (x : SignOutcome). x .answer) (sym e);
-        keeps-cache = ed ∙ ap (λ (x : SignOutcome). x .cache) (sym e);
-        keeps-message = em ∙ ap (λ (x : SignOutcome). x .message) (sym e);
-        leaves = eo ∙ ap (λ (x : SignOutcome). x .out) (sym e);
-      }
+-- sign, under the tally t
+module _ (d m out : List ℕ) (t : ℕ) where
+  signs : (o : SignOutcome) {r : Answer} {d′ m′ out′ : List ℕ} {t′ : ℕ} → signOutcome d m out ≡ o
+      → r ≡ pick (asked (o .calls) t .given) o (notSigned Unanswered d m out) .answer
+      → d′ ≡ pick (asked (o .calls) t .given) o (notSigned Unanswered d m out) .cache
+      → m′ ≡ pick (asked (o .calls) t .given) o (notSigned Unanswered d m out) .message
+      → out′ ≡ pick (asked (o .calls) t .given) o (notSigned Unanswered d m out) .out
+      → t′ ≡ asked (o .calls) t .tally → Signs d m out t r d′ m′ out′ t′
+  unfolding signTallied
+  signs o e er ed em eo et =
+      record { answers = er ∙ rw e; keeps-cache = ed ∙ rw e; keeps-message = em ∙ rw e; leaves = eo ∙ rw e; tallies = et ∙ rw e }
 
-  pub sign-refused : {f : Found} {why : Refusal} {r : Answer} → f ≡ headerOf d → f ≡ found.Refused why → r ≡ answerOf f → Signs d m out r d m out
+  -- a refusal makes no module call
+  not-signed : (why : Refusal) → signOutcome d m out ≡ notSigned why d m out → Signs d m out t (answer.Refused why) d m out t
+  unfolding asked
+  not-signed why e = signs (notSigned why d m out) e refl refl refl refl refl
+
+  pub sign-refused : {f : Found} {why : Refusal} {r : Answer} → f ≡ headerOf d → f ≡ found.Refused why → r ≡ answerOf f → Signs d m out t r d m out t
   unfolding signOutcome signUnder
-  sign-refused {why = why} e g er = signs (notSigned why d m out) (rw (← e, g)) (er ∙ ap answerOf g) refl refl refl
+  sign-refused {why = why} e g er = rw (er, g) (not-signed why (rw (← e, g)))
 
   module _ {f : Found} {x : Header} (e : f ≡ headerOf d) (g : f ≡ found.Good x) where
-    pub sign-long : limit < length m → Signs d m out (answer.Refused TooLong) d m out
+    pub sign-long : limit < length m → Signs d m out t (answer.Refused TooLong) d m out t
     unfolding signOutcome signUnder
-    sign-long p = signs (notSigned TooLong d m out) (rw (← e, g, lt-ltb limit (length m) p)) refl refl refl refl
+    sign-long p = not-signed TooLong (rw (← e, g, lt-ltb limit (length m) p))
 
     module _ (lm : length m ≤ limit) where
-      pub sign-length : (length out ≡ signatureSize → ⊥) → Signs d m out (answer.Refused Length) d m out
+      pub sign-length : (length out ≡ signatureSize → ⊥) → Signs d m out t (answer.Refused Length) d m out t
       unfolding signOutcome signUnder
-      sign-length p = signs (notSigned Length d m out) (rw (← e, g, le-ltb limit (length m) lm, ne-eqb (length out) signatureSize p)) refl refl refl refl
+      sign-length p = not-signed Length (rw (← e, g, le-ltb limit (length m) lm, ne-eqb (length out) signatureSize p))
 
-      pub sign-done : {out′ : List ℕ} → length out ≡ signatureSize
-          → out′ ≡ entrySignature (part d (headerSize + entrySize * x .step) (headerSize + entrySize * x .step + entrySize - (headerSize + entrySize * x .step))) m
-          → Signs d m out answer.Done d m out′
-      unfolding signOutcome signUnder
-      sign-done l eo =
-          let at = headerSize + entrySize * x .step in
-          let n : at + entrySize - at ≡ entrySize = omega arith in
-          signs (signed x d m) (rw (← e, g, le-ltb limit (length m) lm, eq-eqb (length out) signatureSize l)) refl refl refl
-          (eo ∙ rw (n, ← drop-drop (entrySize * x .step) headerSize d))
+      -- the entry was lent, and what lies where out was lent is out′
+      module _ (l : length out ≡ signatureSize) {y : Bool} {t′ : ℕ} {out′ : List ℕ} (q : Asks 1 t y t′)
+          (w : Leaves y (entrySignature (part d (headerSize + entrySize * x .step) (headerSize + entrySize * x .step + entrySize - (headerSize + entrySize * x .step))) m) out out′) where
+        signs-on : signOutcome d m out ≡ signed x d m
+        unfolding signOutcome signUnder
+        signs-on = rw (← e, g, le-ltb limit (length m) lm, eq-eqb (length out) signatureSize l)
+
+        pub sign-unanswered : not y ≡ true → Signs d m out t (answer.Refused Unanswered) d m out′ t′
+        sign-unanswered f =
+            let n : asked 1 t .given ≡ false = sym (q .tells) ∙ not-true y f in
+            signs (signed x d m) signs-on (rw n) (rw n) (rw n) (w .is ∙ rw (n, not-true y f)) (q .leaves)
+
+        pub sign-done : not y ≡ false → Signs d m out t answer.Done d m out′ t′
+        sign-done f =
+            let at = headerSize + entrySize * x .step in
+            let k : at + entrySize - at ≡ entrySize = omega arith in
+            let n : asked 1 t .given ≡ true = sym (q .tells) ∙ not-false y f in
+            signs (signed x d m) signs-on (rw n) (rw n) (rw n) (w .is ∙ rw (n, not-false y f, k, ← drop-drop (entrySize * x .step) headerSize d)) (q .leaves)
 
 -- verify
 module _ (n : ℕ) (k : List ℕ) (t : ℕ) (m x : List ℕ) where
@@ -136,59 +155,74 @@ module _ (n : ℕ) (k : List ℕ) (t : ℕ) (m x : List ℕ) where
               (rw (w, eq-eqb (length k) 32 lk, eq-eqb (length x) signatureSize lx, le-ltb limit (length m) lm, lt-leb n t p)
               (er ∙ rw (ey, whole)))
 
--- make
-module _ (n : ℕ) (a ss d k : List ℕ) where
-  makes : (o : MakeOutcome) {r : Answer} {a′ ss′ d′ k′ : List ℕ} → makeOutcome n a ss d k ≡ o → r ≡ o .answer → a′ ≡ o .master → ss′ ≡ o .seeds → d′ ≡ o .cache
-      → k′ ≡ o .key → Makes n a ss d k r a′ ss′ d′ k′
-  makes o e er ea es ed ek =
-      record {
-        answers = er ∙ ap (λ (x : MakeOutcome). x .answer) (sym e);
-        zeroes-master = ea ∙ ap (λ (x : MakeOutcome). x .master) (sym e);
-        zeroes-seeds = es ∙ ap (λ (x : MakeOutcome). x .seeds) (sym e);
-        leaves = ed ∙ ap (λ (x : MakeOutcome). x .cache) (sym e);
-        writes-key = ek ∙ ap (λ (x : MakeOutcome). x .key) (sym e);
-      }
+-- make, under the tally t
+module _ (n : ℕ) (a ss d k : List ℕ) (t : ℕ) where
+  makes : (o : MakeOutcome) {r : Answer} {a′ ss′ d′ k′ : List ℕ} {t′ : ℕ} → makeOutcome n a ss d k ≡ o
+      → r ≡ pick (asked (o .calls) t .given) o (notMade Unanswered a ss d k) .answer
+      → a′ ≡ pick (asked (o .calls) t .given) o (notMade Unanswered a ss d k) .master
+      → ss′ ≡ pick (asked (o .calls) t .given) o (notMade Unanswered a ss d k) .seeds
+      → d′ ≡ pick (asked (o .calls) t .given) o (notMade Unanswered a ss d k) .cache
+      → k′ ≡ pick (asked (o .calls) t .given) o (notMade Unanswered a ss d k) .key
+      → t′ ≡ asked (o .calls) t .tally → Makes n a ss d k t r a′ ss′ d′ k′ t′
+  unfolding makeTallied
+  makes o e er ea es ed ek et =
+      record { answers = er ∙ rw e; zeroes-master = ea ∙ rw e; zeroes-seeds = es ∙ rw e; leaves = ed ∙ rw e; writes-key = ek ∙ rw e; tallies = et ∙ rw e }
 
-  refuses : (why : Refusal) → makeOutcome n a ss d k ≡ notMade why a ss d k → Makes n a ss d k (answer.Refused why) a ss d k
-  refuses why e = makes (notMade why a ss d k) e refl refl refl refl refl
+  -- a refusal makes no module call
+  refuses : (why : Refusal) → makeOutcome n a ss d k ≡ notMade why a ss d k → Makes n a ss d k t (answer.Refused why) a ss d k t
+  unfolding asked
+  refuses why e = makes (notMade why a ss d k) e refl refl refl refl refl refl
 
-  pub make-outside : outside n ≡ true → Makes n a ss d k (answer.Refused Entries) a ss d k
+  pub make-outside : outside n ≡ true → Makes n a ss d k t (answer.Refused Entries) a ss d k t
   unfolding makeOutcome
   make-outside e = refuses Entries (rw e)
 
   module _ (w : outside n ≡ false) where
-    pub make-master : (length a ≡ 32 → ⊥) → Makes n a ss d k (answer.Refused SeedOrKey) a ss d k
+    pub make-master : (length a ≡ 32 → ⊥) → Makes n a ss d k t (answer.Refused SeedOrKey) a ss d k t
     unfolding makeOutcome
     make-master f = refuses SeedOrKey (rw (w, ne-eqb (length a) 32 f))
 
     module _ (la : length a ≡ 32) where
-      pub make-seeds : (length ss ≡ 32 * n → ⊥) → Makes n a ss d k (answer.Refused SeedOrKey) a ss d k
+      pub make-seeds : (length ss ≡ 32 * n → ⊥) → Makes n a ss d k t (answer.Refused SeedOrKey) a ss d k t
       unfolding makeOutcome
       make-seeds f = refuses SeedOrKey (rw (w, eq-eqb (length a) 32 la, ne-eqb (length ss) (32 * n) f))
 
       module _ (ls : length ss ≡ 32 * n) {size : ℕ} (en : size ≡ cacheSize n) where
-        pub make-cache : (length d ≡ size → ⊥) → Makes n a ss d k (answer.Refused Length) a ss d k
+        pub make-cache : (length d ≡ size → ⊥) → Makes n a ss d k t (answer.Refused Length) a ss d k t
         unfolding makeOutcome
         make-cache f =
             refuses Length (rw (w, eq-eqb (length a) 32 la, eq-eqb (length ss) (32 * n) ls, ne-eqb (length d) (cacheSize n) (λ e. f (e ∙ sym en))))
 
         module _ (ld : length d ≡ size) where
-          pub make-key : (length k ≡ 32 → ⊥) → Makes n a ss d k (answer.Refused Length) a ss d k
+          pub make-key : (length k ≡ 32 → ⊥) → Makes n a ss d k t (answer.Refused Length) a ss d k t
           unfolding makeOutcome
           make-key f =
               refuses Length
               (rw (w, eq-eqb (length a) 32 la, eq-eqb (length ss) (32 * n) ls, eq-eqb (length d) (cacheSize n) (ld ∙ en), ne-eqb (length k) 32 f))
 
-          -- the entries' part of the cache was lent, and came back as ys
-          pub make-done : {from known ys a′ ss′ d′ k′ : List ℕ} → length k ≡ 32 → from ≡ part a 0 32 → known ≡ publicKey from → ys ≡ entries from ss n
-              → d′ ≡ headerBytes (header n 0) ++ bodyIn (take headerSize d ++ (ys ++ drop (length d - headerSize) (drop headerSize d)))
-              → k′ ≡ put k 0 32 known → a′ ≡ replicate (length a) 0 → ss′ ≡ replicate (length ss) 0 → Makes n a ss d k answer.Done a′ ss′ d′ k′
-          unfolding makeOutcome cleared
-          make-done {known = known} {ys = ys} lk ef eo ey ed ek ea es =
-              let whole = ef ∙ take-all 32 a (omega arith) in
-              makes (made n a ss)
-              (rw (w, eq-eqb (length a) 32 la, eq-eqb (length ss) (32 * n) ls, eq-eqb (length d) (cacheSize n) (ld ∙ en), eq-eqb (length k) 32 lk)) refl
-              (ea ∙ rw la)
-              (es ∙ rw ls)
-              (ed ∙ rw (drop-back d ys headerSize (omega arith), ey, whole))
-              (ek ∙ put-whole k known 32 lk ∙ eo ∙ rw whole)
+          -- the entries' part of the cache was lent, and came back as ys; what lies where the key was lent is k′
+          module _ (lk : length k ≡ 32) {from : List ℕ} (ef : from ≡ part a 0 32) {y : Bool} {t′ : ℕ} {ys k′ : List ℕ} (q : Asks (1 + 2 * n) t y t′)
+              (body : Leaves y (entries from ss n) (part d headerSize (length d - headerSize)) ys) (key : Leaves y (publicKey from) k k′) where
+            makes-on : makeOutcome n a ss d k ≡ made n a ss
+            unfolding makeOutcome
+            makes-on = rw (w, eq-eqb (length a) 32 la, eq-eqb (length ss) (32 * n) ls, eq-eqb (length d) (cacheSize n) (ld ∙ en), eq-eqb (length k) 32 lk)
+
+            as-said : Asks (2 * n + 1) t y t′
+            as-said = let e : 1 + 2 * n ≡ 2 * n + 1 = omega arith in rw e at q
+
+            pub make-unanswered : not y ≡ true → Makes n a ss d k t (answer.Refused Unanswered) a ss (relaid d ys) k′ t′
+            make-unanswered f =
+                let no = not-true y f in
+                let g : asked (2 * n + 1) t .given ≡ false = sym (as-said .tells) ∙ no in
+                let kept : ys ≡ bodyIn d = body .is ∙ rw (no, tail-whole d headerSize) in
+                makes (made n a ss) makes-on (rw g) (rw g) (rw g) (tail-back d ys headerSize ∙ rw (g, kept) (take-append-drop headerSize d)) (key .is ∙ rw (no, g)) (as-said .leaves)
+
+            pub make-done : {a′ ss′ d′ : List ℕ} → not y ≡ false → d′ ≡ headerBytes (header n 0) ++ bodyIn (relaid d ys)
+                → a′ ≡ replicate (length a) 0 → ss′ ≡ replicate (length ss) 0 → Makes n a ss d k t answer.Done a′ ss′ d′ k′ t′
+            unfolding cleared
+            make-done f ed ea es =
+                let yes = not-false y f in
+                let whole = ef ∙ take-all 32 a (omega arith) in
+                let g : asked (2 * n + 1) t .given ≡ true = sym (as-said .tells) ∙ yes in
+                let ey : ys ≡ entries a ss n = body .is ∙ rw (yes, whole) in
+                makes (made n a ss) makes-on (rw g) (rw g (ea ∙ rw la)) (rw g (es ∙ rw ls)) (ed ∙ rw (g, drop-back d ys headerSize (omega arith), ey)) (key .is ∙ rw (yes, g, whole)) (as-said .leaves)

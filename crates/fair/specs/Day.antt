@@ -82,7 +82,8 @@ pub record Kept (n : ℕ) (a ss made key now : List ℕ) (last : Last) : Type 0 
   pub accepts : AcceptsOwn → (m out : List ℕ) → Message m → length out ≡ signatureSize
       → verifyOutcome n key (stepOf last) m (signOutcome now m out .out) .answer ≡ verdict.Accepted
 
--- A FAIR DAY: of N steps, from a master seed and N seeds of bytes, lent a cache and a key of the right lengths, for every list of asked moves
+-- A FAIR DAY: of N steps, from a master seed and N seeds of bytes, lent a cache and a key of the right lengths, for every list of asked moves. Making and
+-- signing are those with every answer given, whose outcome a call has that gives no 9
 abbrev pub FairDay : Type 0
 FairDay =
     (n : ℕ) (a ss d k asked : List ℕ) → 1 ≤ n → n ≤ most → Bytes32 a → length ss ≡ 32 * n → Bytes ss → length d ≡ cacheSize n → length k ≡ 32

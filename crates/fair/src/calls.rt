@@ -1,4 +1,5 @@
-// The four calls. Each checks in request 3's order, and writes nothing before all its checks have passed and Ed25519 has given all that is needed.
+// The four calls. Each checks in request 3's order, and writes nothing but the tally before all its checks have passed and Ed25519 has given all that is
+// needed.
 ghost use Rattle.fair.specs.Calls.{Makes, Moves, Signs, Verifies};
 use crate::entries::accepted;
 use crate::entries::fill;
@@ -18,9 +19,16 @@ use rules::Answer;
 use rules::Verdict;
 
 // Makes a cache of n entries at step 0 from a master seed and n lent seeds, and writes out the master's public key. All seeds become zeros.
-pub fn make(n: u64, master: &mut [u8], seeds: &mut [u8], cache: &mut [u8], key: &mut [u8]) -> Answer
-    ensures { λ r. ⌜ Makes n (now (master .entry)) (now (seeds .entry)) (now (cache .entry)) (now (key .entry)) r
-        (now (master .exit)) (now (seeds .exit)) (now (cache .exit)) (now (key .exit)) ⌝ }
+pub fn make(
+    n: u64,
+    master: &mut [u8],
+    seeds: &mut [u8],
+    cache: &mut [u8],
+    key: &mut [u8],
+    tally: &mut u64,
+) -> Answer
+    ensures { λ r. ⌜ Makes n (now (master .entry)) (now (seeds .entry)) (now (cache .entry)) (now (key .entry)) (now (tally .entry)) r
+        (now (master .exit)) (now (seeds .exit)) (now (cache .exit)) (now (key .exit)) (now (tally .exit)) ⌝ }
 {
     let n = n as usize;
     if outside(n) {
@@ -39,11 +47,12 @@ pub fn make(n: u64, master: &mut [u8], seeds: &mut [u8], cache: &mut [u8], key: 
         return Answer::Refused(Refusal::Length);
     }
     let from = fields::get32(master, 0);
-    let known = ed25519::public_key(from);
-    fill(from, seeds, n, &mut cache[HEADER_SIZE..]);
+    let given = fill(from, seeds, n, &mut cache[HEADER_SIZE..], key, tally);
+    if !given {
+        return Answer::Refused(Refusal::Unanswered);
+    }
     let step = 0;
     put_header(cache, Header { entries: n, step });
-    fields::put32(key, 0, known);
     fields::zero(master);
     fields::zero(seeds);
     Answer::Done
@@ -73,9 +82,9 @@ pub fn move_to(cache: &mut [u8], step: u64) -> Answer
 }
 
 // Writes the signature over message by the cache, at its step.
-pub fn sign(cache: &[u8], message: &[u8], out: &mut [u8]) -> Answer
-    ensures { λ r. ⌜ Signs (now (cache .entry)) (now (message .entry)) (now (out .entry)) r
-        (now (cache .exit)) (now (message .exit)) (now (out .exit)) ⌝ }
+pub fn sign(cache: &[u8], message: &[u8], out: &mut [u8], tally: &mut u64) -> Answer
+    ensures { λ r. ⌜ Signs (now (cache .entry)) (now (message .entry)) (now (out .entry)) (now (tally .entry)) r
+        (now (cache .exit)) (now (message .exit)) (now (out .exit)) (now (tally .exit)) ⌝ }
 {
     let found = read_header(cache);
     let Found::Good(header) = found else {
@@ -90,7 +99,10 @@ pub fn sign(cache: &[u8], message: &[u8], out: &mut [u8]) -> Answer
     let step = header.step;
     let at = HEADER_SIZE + ENTRY_SIZE * step;
     let end = at + ENTRY_SIZE;
-    sign_entry(&cache[at..end], message, out);
+    let given = sign_entry(&cache[at..end], message, out, tally);
+    if !given {
+        return Answer::Refused(Refusal::Unanswered);
+    }
     Answer::Done
 }
 

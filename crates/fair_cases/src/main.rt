@@ -1,8 +1,10 @@
 // The four calls of the fair-day cache under the stand-in: days at N = 1, 3 and 256, every pair of moves at 3, and every refusal, alone and with
-// every other that can meet it. Every buffer is a part of a room of nines that is long enough for all.
+// every other that can meet it; then every place at which a module call can fail. Every buffer is a part of a room of nines that is long enough for all.
 ghost use mathlib.Core.Path.{_≡_};
 ghost use Prim.Native.Nat.{_<_, _≤_};
 ghost use lib.ListN.{length};
+use cases::ANSWERED;
+use cases::SILENT;
 use cases::digest;
 use cases::end_line;
 use cases::show_field;
@@ -80,23 +82,38 @@ fn fill(bytes: &mut [u8], first: u8) {
 fn make(n: u64, master: &mut [u8], seeds: &mut [u8], cache: &mut [u8], key: &mut [u8]) -> Answer {
     fill(master, 9);
     fill(seeds, 0);
-    fair::make(n, master, seeds, cache, key)
+    let mut tally = ANSWERED;
+    fair::make(n, master, seeds, cache, key, &mut tally)
+}
+
+fn show_left(master: &[u8], seeds: &[u8], cache: &[u8], key: &[u8])
+    ensures { λ _. ⌜ (now (master .exit) ≡ now (master .entry)) × (now (seeds .exit) ≡ now (seeds .entry))
+        × (now (cache .exit) ≡ now (cache .entry)) × (now (key .exit) ≡ now (key .entry)) ⌝ }
+{
+    show_field(chained(master));
+    show_field(chained(seeds));
+    show_field(chained(cache));
+    show_field(chained(key));
 }
 
 // What making answers, and everything that it leaves.
 fn show_made(n: u64, master: &mut [u8], seeds: &mut [u8], cache: &mut [u8], key: &mut [u8]) {
     show_answer(make(n, master, seeds, cache, key));
-    show_field(chained(master));
-    show_field(chained(seeds));
-    show_field(chained(cache));
-    show_field(chained(key));
+    show_left(master, seeds, cache, key);
     end_line();
+}
+
+fn sign(cache: &[u8], message: &[u8], signature: &mut [u8]) -> Answer
+    ensures { λ _. ⌜ (now (cache .exit) ≡ now (cache .entry)) × (now (message .exit) ≡ now (message .entry)) ⌝ }
+{
+    let mut tally = ANSWERED;
+    fair::sign(cache, message, signature, &mut tally)
 }
 
 fn show_signed(cache: &[u8], message: &[u8], signature: &mut [u8])
     ensures { λ _. ⌜ (now (cache .exit) ≡ now (cache .entry)) × (now (message .exit) ≡ now (message .entry)) ⌝ }
 {
-    show_answer(fair::sign(cache, message, signature));
+    show_answer(sign(cache, message, signature));
     show_field(chained(signature));
 }
 
@@ -401,7 +418,7 @@ fn bad_headers() {
 
 fn sign_at_1(cache: &mut [u8], message: &[u8], signature: &mut [u8]) {
     fair::move_to(cache, 1);
-    fair::sign(cache, message, signature);
+    sign(cache, message, signature);
 }
 
 fn put_sale(signature: &mut [u8])
@@ -542,6 +559,105 @@ fn spoiled() {
     end_line();
 }
 
+// What making answers from this tally on, the tally left, and everything else that it leaves.
+fn show_make(
+    n: u64,
+    master: &mut [u8],
+    seeds: &mut [u8],
+    cache: &mut [u8],
+    key: &mut [u8],
+    tally: &mut u64,
+) {
+    show_answer(fair::make(n, master, seeds, cache, key, tally));
+    show_number(*tally);
+    show_left(master, seeds, cache, key);
+}
+
+// The same, and once more with the tally left.
+fn make_twice(
+    n: u64,
+    first: u64,
+    master: &mut [u8],
+    seeds: &mut [u8],
+    cache: &mut [u8],
+    key: &mut [u8],
+) {
+    fill(master, 9);
+    fill(seeds, 0);
+    let mut tally = first;
+    show_make(n, master, seeds, cache, key, &mut tally);
+    show_make(n, master, seeds, cache, key, &mut tally);
+}
+
+// The line of that, from this tally on.
+fn make_from(n: u64, first: u64)
+    requires { ⌜ n ≤ 256 ⌝ }
+{
+    io::write_all(STDOUT_FILENO, b"unanswered");
+    show_number(n);
+    show_number(first);
+    let own = (32 * n) as usize;
+    let size = (4 + 128 * n) as usize;
+    let mut master = room();
+    let mut seeds = room();
+    let mut cache = room();
+    let mut key = room();
+    make_twice(
+        n,
+        first,
+        &mut master[0..32],
+        &mut seeds[0..own],
+        &mut cache[0..size],
+        &mut key[0..32],
+    );
+    end_line();
+}
+
+// Each of the calls of making fails in its turn, and at last none.
+fn failing_makes() {
+    let mut k: u64 = 0;
+    while k < 8 {
+        make_from(3, SILENT - k);
+        k += 1;
+    }
+}
+
+// Tallies near 0, 2^32 and 2^64.
+fn edge_makes() {
+    make_from(3, 0);
+    make_from(3, 94);
+    make_from(3, 4294967293);
+    make_from(3, 18446744069414584416);
+    make_from(3, 18446744073709551609);
+    make_from(3, 18446744073709551613);
+    make_from(3, 18446744073709551615);
+    make_from(256, 18446744073709551316);
+}
+
+fn show_sign(cache: &[u8], signature: &mut [u8], tally: &mut u64)
+    ensures { λ _. ⌜ now (cache .exit) ≡ now (cache .entry) ⌝ }
+{
+    show_answer(fair::sign(cache, b"top-up", signature, tally));
+    show_number(*tally);
+    show_field(chained(signature));
+}
+
+fn sign_twice(first: u64, cache: &[u8], signature: &mut [u8]) {
+    let mut tally = first;
+    show_sign(cache, signature, &mut tally);
+    show_sign(cache, signature, &mut tally);
+}
+
+// The line of a signature from this tally on, and once more with the tally left.
+fn sign_from(first: u64) {
+    io::write_all(STDOUT_FILENO, b"unsigned");
+    show_number(first);
+    let cache = fresh();
+    let mut signature = room();
+    sign_twice(first, &cache[0..388], &mut signature[0..160]);
+    end_line();
+}
+
 fn main() {
     fair_of(1, 1);
     fair_of(3, 1);
@@ -556,4 +672,9 @@ fn main() {
     bad_headers();
     verdicts();
     spoiled();
+    failing_makes();
+    edge_makes();
+    sign_from(SILENT);
+    sign_from(SILENT - 1);
+    sign_from(18446744073709551615);
 }

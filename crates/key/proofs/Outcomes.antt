@@ -1,26 +1,30 @@
 -- The contract of each call in each of its cases, from what its checks and calls say on the way to that return.
 use mathlib.Core.Path.{_≡_, refl, sym, ap, _∙_}
 use mathlib.Core.List.{List, [], _∷_, _++_}
-use mathlib.Core.Bool.{Bool, true, false}
+use mathlib.Core.Bool.{Bool, true, false, not}
 use Prim.Native.Nat.{ℕ, _-_, _≤_, _<_}
 use native.Mathlib.Omega.{arith}
-use lib.ListN.{length, take, drop}
+use lib.ListN.{length, take, drop, take-append-drop}
 use lib.Seq.{take-all}
-use borrow.Author.Tests.{le-ltb, lt-ltb, le-leb, lt-leb, eq-eqb, ne-eqb}
+use borrow.Author.Tests.{le-ltb, lt-ltb, le-leb, lt-leb, eq-eqb, ne-eqb, not-true, not-false}
 use Rattle.fields.specs.Fields.{part, put}
-use Rattle.fields.proofs.Laws.{put-whole, tail-whole, drop-back}
+use Rattle.fields.proofs.Laws.{put-whole, tail-whole, tail-back, drop-back}
 use Rattle.fields.specs.Tests.{pick}
 use Rattle.blake2b.specs.Calls.{limit}
 use Rattle.refusal.specs.declared.Refusal.{Refusal}
-use Rattle.refusal.specs.declared.Refusal.the-variants.{Height, SeedOrKey, Length, NotLater, PastEnd, TooLong}
+use Rattle.refusal.specs.declared.Refusal.the-variants.{Height, SeedOrKey, Length, NotLater, PastEnd, TooLong, Unanswered}
+use Rattle.ed25519.specs.Tally.{Run, asked, Asks, Leaves}
 use Rattle.tree.specs.Tree.{zeros, rootIn}
+use Rattle.tree.specs.Answers.{grewOf}
+use Rattle.tree.specs.declared.moving.Grew.{Grew}
+use Rattle.tree.specs.declared.moving.Grew.the-variants as grew
 use Rattle.rules.specs.Part.{partSignature, partVerdict}
 use Rattle.rules.specs.Table.{headerSize, steps, tableSize, signatureSize, header, atStep, headerBytes, bodyIn, headerOf}
 use Rattle.rules.specs.Answers.{grownOf, answerOf}
-use Rattle.rules.specs.Calls.{tooHigh, makeWork, Makes, MakeOutcome, notMade, made, makeOutcome}
+use Rattle.rules.specs.Calls.{tooHigh, makeWork, Makes, MakeOutcome, notMade, made, makeOutcome, makeTallied}
 use Rattle.rules.specs.Calls.{Reads, KeyOutcome, notRead, keyRead, keyUnder, keyOutcome}
-use Rattle.rules.specs.Calls.{moveWork, Moves, MoveOutcome, notMoved, moved, moveUnder, moveOutcome}
-use Rattle.rules.specs.Calls.{Signs, SignOutcome, notSigned, signed, signUnder, signOutcome}
+use Rattle.rules.specs.Calls.{moveWork, Moves, MoveOutcome, notMoved, moved, moveUnder, moveOutcome, moveTallied}
+use Rattle.rules.specs.Calls.{Signs, SignOutcome, notSigned, signed, signUnder, signOutcome, signTallied}
 use Rattle.rules.specs.Calls.{Verifies, verdictOf, verifyOutcome}
 use Rattle.rules.specs.declared.Header.{Header}
 use Rattle.rules.specs.declared.Found.{Found}
@@ -31,46 +35,65 @@ use Rattle.rules.specs.declared.Answer.{Answer}
 use Rattle.rules.specs.declared.Answer.the-variants as answer
 use Rattle.rules.specs.declared.Verdict.{Verdict}
 use Rattle.rules.specs.declared.Verdict.the-variants as verdict
+use Rattle.part.specs.Work.{Commits}
+use Rattle.part.proofs.Copies.{count-given, none-given}
 
 -- a table d whose tail behind the header was lent and came back as ys
 abbrev pub relaid : List ℕ → List ℕ → List ℕ
 relaid d ys = take headerSize d ++ (ys ++ drop (length d - headerSize) (drop headerSize d))
 
--- make
-module _ (h1 h2 : ℕ) (s d : List ℕ) where
-  makes : (o : MakeOutcome) {a : Grown} {s′ d′ : List ℕ} → makeOutcome h1 h2 s d ≡ o → a ≡ o .answer → s′ ≡ o .seed → d′ ≡ o .table
-      → Makes h1 h2 s d a s′ d′
-  makes o e ea es ed =
-      record {
-        answers = ea ∙ ap (λ (x : MakeOutcome). x .answer) (sym e);
-        zeroes = es ∙ ap (λ (x : MakeOutcome). x .seed) (sym e);
-        leaves = ed ∙ ap (λ (x : MakeOutcome). x .table) (sym e);
-      }
+-- make, under the tally t
+module _ (h1 h2 : ℕ) (s d : List ℕ) (t : ℕ) where
+  makes : (o : MakeOutcome) {a : Grown} {s′ d′ : List ℕ} {t′ : ℕ} → makeOutcome h1 h2 s d ≡ o → a ≡ pick (asked (o .calls) t .given) o (notMade Unanswered s d) .answer
+      → s′ ≡ pick (asked (o .calls) t .given) o (notMade Unanswered s d) .seed → d′ ≡ pick (asked (o .calls) t .given) o (notMade Unanswered s d) .table
+      → t′ ≡ asked (o .calls) t .tally → Makes h1 h2 s d t a s′ d′ t′
+  unfolding makeTallied
+  makes o e ea es ed et = record { answers = ea ∙ rw e; zeroes = es ∙ rw e; leaves = ed ∙ rw e; tallies = et ∙ rw e }
 
-  pub make-high : tooHigh h1 h2 ≡ true → Makes h1 h2 s d (grown.Refused Height) s d
+  not-made : (why : Refusal) → makeOutcome h1 h2 s d ≡ notMade why s d → Makes h1 h2 s d t (grown.Refused why) s d t
+  unfolding asked
+  not-made why e = makes (notMade why s d) e refl refl refl refl
+
+  pub make-high : tooHigh h1 h2 ≡ true → Makes h1 h2 s d t (grown.Refused Height) s d t
   unfolding makeOutcome
-  make-high e = makes (notMade Height s d) (rw e) refl refl refl
+  make-high e = not-made Height (rw e)
 
   module _ (low : tooHigh h1 h2 ≡ false) where
-    pub make-seed : (length s ≡ 32 → ⊥) → Makes h1 h2 s d (grown.Refused SeedOrKey) s d
+    pub make-seed : (length s ≡ 32 → ⊥) → Makes h1 h2 s d t (grown.Refused SeedOrKey) s d t
     unfolding makeOutcome
-    make-seed f = makes (notMade SeedOrKey s d) (rw (low, ne-eqb (length s) 32 f)) refl refl refl
+    make-seed f = not-made SeedOrKey (rw (low, ne-eqb (length s) 32 f))
 
     module _ (ls : length s ≡ 32) {n : ℕ} (en : n ≡ tableSize h1 h2) where
-      pub make-length : (length d ≡ n → ⊥) → Makes h1 h2 s d (grown.Refused Length) s d
+      pub make-length : (length d ≡ n → ⊥) → Makes h1 h2 s d t (grown.Refused Length) s d t
       unfolding makeOutcome
-      make-length f =
-          makes (notMade Length s d) (rw (low, eq-eqb (length s) 32 ls, ne-eqb (length d) (tableSize h1 h2) (λ e. f (e ∙ sym en)))) refl refl refl
+      make-length f = not-made Length (rw (low, eq-eqb (length s) 32 ls, ne-eqb (length d) (tableSize h1 h2) (λ e. f (e ∙ sym en))))
 
-      pub make-done : {k : ℕ} {from ys z s′ d′ : List ℕ} → length d ≡ n → from ≡ part s 0 32 → k ≡ makeWork h1 h2 from .count → ys ≡ makeWork h1 h2 from .body
-          → d′ ≡ headerBytes (header h1 h2 0) ++ bodyIn (relaid d ys) → z ≡ zeros → s′ ≡ put s 0 32 z → Makes h1 h2 s d (grown.Done k) s′ d′
-      unfolding makeOutcome
-      make-done {ys = ys} {z = z} ld ef ek ey ed ez es =
-          let whole = ef ∙ take-all 32 s (omega arith) in
-          makes (made h1 h2 (makeWork h1 h2 s)) (rw (low, eq-eqb (length s) 32 ls, eq-eqb (length d) (tableSize h1 h2) (ld ∙ en)))
-          (ap grown.Done (ek ∙ rw whole))
-          (es ∙ put-whole s z 32 ls ∙ ez)
-          (ed ∙ rw (drop-back d ys headerSize (omega arith), ey, whole))
+      module _ (ld : length d ≡ n) {from : List ℕ} (ef : from ≡ part s 0 32) {a : Grew} {t′ : ℕ} {ys : List ℕ}
+          (w : Commits (makeWork h1 h2 from) t a t′ (part d headerSize (length d - headerSize)) ys) where
+        makes-on : makeOutcome h1 h2 s d ≡ made h1 h2 (makeWork h1 h2 s)
+        unfolding makeOutcome
+        makes-on = rw (low, eq-eqb (length s) 32 ls, eq-eqb (length d) (tableSize h1 h2) (ld ∙ en))
+
+        made-work : Commits (makeWork h1 h2 s) t a t′ (bodyIn d) ys
+        made-work = rw (← take-all 32 s (omega arith), ← ef, ← tail-whole d headerSize) w
+
+        pub make-unanswered : a ≡ grew.Unanswered → Makes h1 h2 s d t (grown.Refused Unanswered) s (relaid d ys) t′
+        make-unanswered ea =
+            let w′ = made-work in
+            let y = none-given (asked (makeWork h1 h2 s .calls) t .given) (makeWork h1 h2 s .count) (sym ea ∙ w′ .answers) in
+            let kept : ys ≡ bodyIn d = w′ .leaves .is ∙ rw y in
+            makes (made h1 h2 (makeWork h1 h2 s)) makes-on (rw y) (rw y) (tail-back d ys headerSize ∙ rw (y, kept) (take-append-drop headerSize d)) (w′ .tallies)
+
+        pub make-done : {k : ℕ} {z s′ d′ : List ℕ} → a ≡ grew.Count k → d′ ≡ headerBytes (header h1 h2 0) ++ bodyIn (relaid d ys) → z ≡ zeros → s′ ≡ put s 0 32 z
+            → Makes h1 h2 s d t (grown.Done k) s′ d′ t′
+        make-done {k} {z} ea ed ez es =
+            let w′ = made-work in
+            let y = count-given (asked (makeWork h1 h2 s .calls) t .given) (makeWork h1 h2 s .count) (sym ea ∙ w′ .answers) in
+            let ek : grew.Count k ≡ grew.Count (makeWork h1 h2 s .count) = sym ea ∙ w′ .answers ∙ rw y in
+            let c : k ≡ makeWork h1 h2 s .count = cc ek in
+            let ey : ys ≡ makeWork h1 h2 s .body = w′ .leaves .is ∙ rw y in
+            makes (made h1 h2 (makeWork h1 h2 s)) makes-on (rw (y, c)) (rw y (es ∙ put-whole s z 32 ls ∙ ez))
+            (ed ∙ rw (y, drop-back d ys headerSize (omega arith), ey)) (w′ .tallies)
 
 -- read key
 module _ (d out : List ℕ) where
@@ -97,70 +120,100 @@ module _ (d out : List ℕ) where
     key-done {k = k} l ek eo =
         reads (keyRead x d) (rw (← e, g, eq-eqb (length out) 32 l)) refl refl (eo ∙ put-whole out k 32 l ∙ ek ∙ rw (tail-whole d headerSize))
 
--- move
-module _ (d : List ℕ) (b : ℕ) where
-  moves : (o : MoveOutcome) {a : Grown} {d′ : List ℕ} → moveOutcome d b ≡ o → a ≡ o .answer → d′ ≡ o .table → Moves d b a d′
-  moves o e ea ed =
-      record { answers = ea ∙ ap (λ (x : MoveOutcome). x .answer) (sym e); leaves = ed ∙ ap (λ (x : MoveOutcome). x .table) (sym e) }
+-- move, under the tally t
+module _ (d : List ℕ) (b t : ℕ) where
+  moves : (o : MoveOutcome) {a : Grown} {d′ : List ℕ} {t′ : ℕ} → moveOutcome d b ≡ o → a ≡ pick (asked (o .calls) t .given) o (notMoved Unanswered d) .answer
+      → d′ ≡ pick (asked (o .calls) t .given) o (notMoved Unanswered d) .table → t′ ≡ asked (o .calls) t .tally → Moves d b t a d′ t′
+  unfolding moveTallied
+  moves o e ea ed et = record { answers = ea ∙ rw e; leaves = ed ∙ rw e; tallies = et ∙ rw e }
 
-  pub move-refused : {x : Found} {why : Refusal} {a : Grown} → x ≡ headerOf d → x ≡ found.Refused why → a ≡ grownOf x → Moves d b a d
+  -- a refusal makes no module call
+  refused : (why : Refusal) → moveOutcome d b ≡ notMoved why d → Moves d b t (grown.Refused why) d t
+  unfolding asked
+  refused why e = moves (notMoved why d) e refl refl refl
+
+  pub move-refused : {x : Found} {why : Refusal} {a : Grown} → x ≡ headerOf d → x ≡ found.Refused why → a ≡ grownOf x → Moves d b t a d t
   unfolding moveOutcome moveUnder
-  move-refused {why = why} e r ea = moves (notMoved why d) (rw (← e, r)) (ea ∙ ap grownOf r) refl
+  move-refused {why = why} e r ea = rw (ea, r) (refused why (rw (← e, r)))
 
   module _ {f : Found} {x : Header} (e : f ≡ headerOf d) (g : f ≡ found.Good x) {n : ℕ} (en : n ≡ steps (x .h1) (x .h2)) where
-    pub move-late : n ≤ b → Moves d b (grown.Refused PastEnd) d
+    pub move-late : n ≤ b → Moves d b t (grown.Refused PastEnd) d t
     unfolding moveOutcome moveUnder
-    move-late p = moves (notMoved PastEnd d) (rw (← e, g, le-leb (steps (x .h1) (x .h2)) b (omega arith))) refl refl
+    move-late p = refused PastEnd (rw (← e, g, le-leb (steps (x .h1) (x .h2)) b (omega arith)))
 
     module _ (u : b < n) where
-      pub move-not-later : b ≤ x .step → Moves d b (grown.Refused NotLater) d
+      pub move-not-later : b ≤ x .step → Moves d b t (grown.Refused NotLater) d t
       unfolding moveOutcome moveUnder
-      move-not-later p =
-          moves (notMoved NotLater d) (rw (← e, g, lt-leb (steps (x .h1) (x .h2)) b (omega arith), le-leb b (x .step) p)) refl refl
+      move-not-later p = refused NotLater (rw (← e, g, lt-leb (steps (x .h1) (x .h2)) b (omega arith), le-leb b (x .step) p))
 
-      pub move-done : {k : ℕ} {ys d′ : List ℕ} → headerSize ≤ length d → x .step < b → k ≡ moveWork x (part d headerSize (length d - headerSize)) b .count
-          → ys ≡ moveWork x (part d headerSize (length d - headerSize)) b .body → d′ ≡ headerBytes (atStep x b) ++ bodyIn (relaid d ys)
-          → Moves d b (grown.Done k) d′
-      unfolding moveOutcome moveUnder
-      move-done {ys = ys} l p ek ey ed =
-          moves (moved x b (moveWork x (bodyIn d) b)) (rw (← e, g, lt-leb (steps (x .h1) (x .h2)) b (omega arith), lt-leb b (x .step) p))
-          (ap grown.Done (ek ∙ rw (tail-whole d headerSize)))
-          (ed ∙ rw (drop-back d ys headerSize l, ey, tail-whole d headerSize))
+      module _ (l : headerSize ≤ length d) (p : x .step < b) {a : Grew} {t′ : ℕ} {ys : List ℕ}
+          (w : Commits (moveWork x (part d headerSize (length d - headerSize)) b) t a t′ (part d headerSize (length d - headerSize)) ys) where
+        moves-on : moveOutcome d b ≡ moved x b (moveWork x (bodyIn d) b)
+        unfolding moveOutcome moveUnder
+        moves-on = rw (← e, g, lt-leb (steps (x .h1) (x .h2)) b (omega arith), lt-leb b (x .step) p)
 
--- sign
-module _ (d m out : List ℕ) where
-  signs : (o : SignOutcome) {a : Answer} {d′ m′ out′ : List ℕ} → signOutcome d m out ≡ o → a ≡ o .answer → d′ ≡ o .table → m′ ≡ o .message → out′ ≡ o .out
-      → Signs d m out a d′ m′ out′
-  signs o e ea ed em eo =
-      record {
-        answers = ea ∙ ap (λ (x : SignOutcome). x .answer) (sym e);
-        keeps-table = ed ∙ ap (λ (x : SignOutcome). x .table) (sym e);
-        keeps-message = em ∙ ap (λ (x : SignOutcome). x .message) (sym e);
-        leaves = eo ∙ ap (λ (x : SignOutcome). x .out) (sym e);
-      }
+        work : Commits (moveWork x (bodyIn d) b) t a t′ (bodyIn d) ys
+        work = rw (← tail-whole d headerSize) w
 
-  pub sign-refused : {x : Found} {why : Refusal} {a : Answer} → x ≡ headerOf d → x ≡ found.Refused why → a ≡ answerOf x → Signs d m out a d m out
+        pub move-unanswered : a ≡ grew.Unanswered → Moves d b t (grown.Refused Unanswered) (relaid d ys) t′
+        move-unanswered ea =
+            let y = none-given (asked (moveWork x (bodyIn d) b .calls) t .given) (moveWork x (bodyIn d) b .count) (sym ea ∙ work .answers) in
+            let kept : ys ≡ bodyIn d = work .leaves .is ∙ rw y in
+            moves (moved x b (moveWork x (bodyIn d) b)) moves-on (rw y) (tail-back d ys headerSize ∙ rw (y, kept) (take-append-drop headerSize d)) (work .tallies)
+
+        pub move-done : {k : ℕ} {d′ : List ℕ} → a ≡ grew.Count k → d′ ≡ headerBytes (atStep x b) ++ bodyIn (relaid d ys) → Moves d b t (grown.Done k) d′ t′
+        move-done {k} ea ed =
+            let y = count-given (asked (moveWork x (bodyIn d) b .calls) t .given) (moveWork x (bodyIn d) b .count) (sym ea ∙ work .answers) in
+            let ek : grew.Count k ≡ grew.Count (moveWork x (bodyIn d) b .count) = sym ea ∙ work .answers ∙ rw y in
+            let n : k ≡ moveWork x (bodyIn d) b .count = cc ek in
+            let ey : ys ≡ moveWork x (bodyIn d) b .body = work .leaves .is ∙ rw y in
+            moves (moved x b (moveWork x (bodyIn d) b)) moves-on (rw (y, n)) (ed ∙ rw (y, drop-back d ys headerSize l, ey)) (work .tallies)
+
+-- sign, under the tally t
+module _ (d m out : List ℕ) (t : ℕ) where
+  signs : (o : SignOutcome) {a : Answer} {d′ m′ out′ : List ℕ} {t′ : ℕ} → signOutcome d m out ≡ o
+      → a ≡ pick (asked (o .calls) t .given) o (notSigned Unanswered d m out) .answer
+      → d′ ≡ pick (asked (o .calls) t .given) o (notSigned Unanswered d m out) .table
+      → m′ ≡ pick (asked (o .calls) t .given) o (notSigned Unanswered d m out) .message
+      → out′ ≡ pick (asked (o .calls) t .given) o (notSigned Unanswered d m out) .out
+      → t′ ≡ asked (o .calls) t .tally → Signs d m out t a d′ m′ out′ t′
+  unfolding signTallied
+  signs o e ea ed em eo et =
+      record { answers = ea ∙ rw e; keeps-table = ed ∙ rw e; keeps-message = em ∙ rw e; leaves = eo ∙ rw e; tallies = et ∙ rw e }
+
+  not-signed : (why : Refusal) → signOutcome d m out ≡ notSigned why d m out → Signs d m out t (answer.Refused why) d m out t
+  unfolding asked
+  not-signed why e = signs (notSigned why d m out) e refl refl refl refl refl
+
+  pub sign-refused : {x : Found} {why : Refusal} {a : Answer} → x ≡ headerOf d → x ≡ found.Refused why → a ≡ answerOf x → Signs d m out t a d m out t
   unfolding signOutcome signUnder
-  sign-refused {why = why} e r ea = signs (notSigned why d m out) (rw (← e, r)) (ea ∙ ap answerOf r) refl refl refl
+  sign-refused {why = why} e r ea = rw (ea, r) (not-signed why (rw (← e, r)))
 
   module _ {f : Found} {x : Header} (e : f ≡ headerOf d) (g : f ≡ found.Good x) where
-    pub sign-long : limit < length m → Signs d m out (answer.Refused TooLong) d m out
+    pub sign-long : limit < length m → Signs d m out t (answer.Refused TooLong) d m out t
     unfolding signOutcome signUnder
-    sign-long p = signs (notSigned TooLong d m out) (rw (← e, g, lt-ltb limit (length m) p)) refl refl refl refl
+    sign-long p = not-signed TooLong (rw (← e, g, lt-ltb limit (length m) p))
 
     module _ (lm : length m ≤ limit) {n : ℕ} (en : n ≡ signatureSize (x .h1) (x .h2)) where
-      pub sign-length : (length out ≡ n → ⊥) → Signs d m out (answer.Refused Length) d m out
+      pub sign-length : (length out ≡ n → ⊥) → Signs d m out t (answer.Refused Length) d m out t
       unfolding signOutcome signUnder
-      sign-length p =
-          signs (notSigned Length d m out)
-          (rw (← e, g, le-ltb limit (length m) lm, ne-eqb (length out) (signatureSize (x .h1) (x .h2)) (λ q. p (q ∙ sym en)))) refl refl refl refl
+      sign-length p = not-signed Length (rw (← e, g, le-ltb limit (length m) lm, ne-eqb (length out) (signatureSize (x .h1) (x .h2)) (λ q. p (q ∙ sym en))))
 
-      pub sign-done : {out′ : List ℕ} → length out ≡ n
-          → out′ ≡ partSignature (part d headerSize (length d - headerSize)) (x .h1) (x .h2 ∷ []) (x .step) m → Signs d m out answer.Done d m out′
-      unfolding signOutcome signUnder
-      sign-done l eo =
-          signs (signed x d m) (rw (← e, g, le-ltb limit (length m) lm, eq-eqb (length out) (signatureSize (x .h1) (x .h2)) (l ∙ en))) refl refl refl
-          (eo ∙ rw (tail-whole d headerSize))
+      module _ (l : length out ≡ n) {y : Bool} {t′ : ℕ} {out′ : List ℕ} (k : Asks 1 t y t′)
+          (w : Leaves y (partSignature (part d headerSize (length d - headerSize)) (x .h1) (x .h2 ∷ []) (x .step) m) out out′) where
+        signs-on : signOutcome d m out ≡ signed x d m
+        unfolding signOutcome signUnder
+        signs-on = rw (← e, g, le-ltb limit (length m) lm, eq-eqb (length out) (signatureSize (x .h1) (x .h2)) (l ∙ en))
+
+        pub sign-unanswered : not y ≡ true → Signs d m out t (answer.Refused Unanswered) d m out′ t′
+        sign-unanswered q =
+            let n : asked 1 t .given ≡ false = sym (k .tells) ∙ not-true y q in
+            signs (signed x d m) signs-on (rw n) (rw n) (rw n) (w .is ∙ rw (n, not-true y q)) (k .leaves)
+
+        pub sign-done : not y ≡ false → Signs d m out t answer.Done d m out′ t′
+        sign-done q =
+            let n : asked 1 t .given ≡ true = sym (k .tells) ∙ not-false y q in
+            signs (signed x d m) signs-on (rw n) (rw n) (rw n) (w .is ∙ rw (n, not-false y q, tail-whole d headerSize)) (k .leaves)
 
 -- verify
 module _ (h1 h2 : ℕ) (k : List ℕ) (t : ℕ) (m x : List ℕ) where

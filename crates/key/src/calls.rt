@@ -20,10 +20,11 @@ use rules::Found;
 use rules::Grown;
 use rules::Header;
 use rules::Verdict;
+use tree::Grew;
 
 // Makes a key of these heights from seed, in table. The lent seed becomes zeros.
-pub fn make(h1: u64, h2: u64, seed: &mut [u8], table: &mut [u8]) -> Grown
-    ensures { λ r. ⌜ Makes h1 h2 (now (seed .entry)) (now (table .entry)) r (now (seed .exit)) (now (table .exit)) ⌝ }
+pub fn make(h1: u64, h2: u64, seed: &mut [u8], table: &mut [u8], tally: &mut u64) -> Grown
+    ensures { λ r. ⌜ Makes h1 h2 (now (seed .entry)) (now (table .entry)) (now (tally .entry)) r (now (seed .exit)) (now (table .exit)) (now (tally .exit)) ⌝ }
 {
     let h1 = h1 as usize;
     let h2 = h2 as usize;
@@ -37,7 +38,10 @@ pub fn make(h1: u64, h2: u64, seed: &mut [u8], table: &mut [u8]) -> Grown
         return Grown::Refused(Refusal::Length);
     }
     let from = fields::get32(seed, 0);
-    let count = make_body(from, h1, h2, &mut table[HEADER_SIZE..]);
+    let grown = make_body(from, h1, h2, &mut table[HEADER_SIZE..], tally);
+    let Grew::Count(count) = grown else {
+        return Grown::Refused(Refusal::Unanswered);
+    };
     put_header(table, Header { h1, h2, step: 0 });
     let zeros = [0u8; 32];
     fields::put32(seed, 0, zeros);
@@ -61,8 +65,8 @@ pub fn read_key(table: &[u8], out: &mut [u8]) -> Answer
 }
 
 // Moves the key in table to a later step.
-pub fn move_to(table: &mut [u8], step: u64) -> Grown
-    ensures { λ r. ⌜ Moves (now (table .entry)) step r (now (table .exit)) ⌝ }
+pub fn move_to(table: &mut [u8], step: u64, tally: &mut u64) -> Grown
+    ensures { λ r. ⌜ Moves (now (table .entry)) step (now (tally .entry)) r (now (table .exit)) (now (tally .exit)) ⌝ }
 {
     let found = read_header(table);
     let Found::Good(header) = found else {
@@ -77,7 +81,10 @@ pub fn move_to(table: &mut [u8], step: u64) -> Grown
     if step <= old {
         return Grown::Refused(Refusal::NotLater);
     }
-    let count = move_body(&mut table[HEADER_SIZE..], header, step);
+    let grown = move_body(&mut table[HEADER_SIZE..], header, step, tally);
+    let Grew::Count(count) = grown else {
+        return Grown::Refused(Refusal::Unanswered);
+    };
     let h1 = header.h1;
     let h2 = header.h2;
     put_header(table, Header { h1, h2, step });
@@ -85,9 +92,9 @@ pub fn move_to(table: &mut [u8], step: u64) -> Grown
 }
 
 // Writes the signature over message by the key in table, at its step.
-pub fn sign(table: &[u8], message: &[u8], out: &mut [u8]) -> Answer
-    ensures { λ r. ⌜ Signs (now (table .entry)) (now (message .entry)) (now (out .entry)) r
-        (now (table .exit)) (now (message .exit)) (now (out .exit)) ⌝ }
+pub fn sign(table: &[u8], message: &[u8], out: &mut [u8], tally: &mut u64) -> Answer
+    ensures { λ r. ⌜ Signs (now (table .entry)) (now (message .entry)) (now (out .entry)) (now (tally .entry)) r
+        (now (table .exit)) (now (message .exit)) (now (out .exit)) (now (tally .exit)) ⌝ }
 {
     let found = read_header(table);
     let Found::Good(header) = found else {
@@ -99,7 +106,10 @@ pub fn sign(table: &[u8], message: &[u8], out: &mut [u8]) -> Answer
     if out.len() != signature_size(header.h1, header.h2) {
         return Answer::Refused(Refusal::Length);
     }
-    sign_body(&table[HEADER_SIZE..], header, message, out);
+    let given = sign_body(&table[HEADER_SIZE..], header, message, out, tally);
+    if !given {
+        return Answer::Refused(Refusal::Unanswered);
+    }
     Answer::Done
 }
 

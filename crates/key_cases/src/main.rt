@@ -1,8 +1,10 @@
 // The five calls under the stand-in, from the seed 1, 2, .., 32: a day of single steps at four pairs of heights, with refused moves between; all pairs
-// of jumps; and document 01's edges.
+// of jumps; document 01's edges; and every place at which a module call can fail.
 ghost use mathlib.Core.Path.{_≡_};
 ghost use Prim.Native.Nat.{_≤_};
 ghost use lib.ListN.{length};
+use cases::ANSWERED;
+use cases::SILENT;
 use cases::digest;
 use cases::end_line;
 use cases::show_field;
@@ -88,7 +90,18 @@ fn show_verdict(verdict: Verdict) {
 
 fn make(h1: u64, h2: u64, table: &mut [u8]) -> Grown {
     let mut lent = SEED;
-    key::make(h1, h2, &mut lent, table)
+    let mut tally = ANSWERED;
+    key::make(h1, h2, &mut lent, table, &mut tally)
+}
+
+fn move_to(table: &mut [u8], step: u64) -> Grown {
+    let mut tally = ANSWERED;
+    key::move_to(table, step, &mut tally)
+}
+
+fn sign(table: &[u8], message: &[u8], signature: &mut [u8]) -> Answer {
+    let mut tally = ANSWERED;
+    key::sign(table, message, signature, &mut tally)
 }
 
 // The line of a key: its heights, what making answers, the table, the verification key.
@@ -124,11 +137,11 @@ fn verdicts(h1: u64, h2: u64, t: u64, table: &[u8], signature: &[u8]) {
 fn step(h1: u64, h2: u64, t: u64, end: u64, table: &mut [u8], signature: &mut [u8]) {
     io::write_all(STDOUT_FILENO, b"step");
     show_number(t);
-    show_grown(key::move_to(table, t));
-    show_grown(key::move_to(table, t));
-    show_grown(key::move_to(table, end));
+    show_grown(move_to(table, t));
+    show_grown(move_to(table, t));
+    show_grown(move_to(table, end));
     show_field(digest(table));
-    show_answer(key::sign(table, b"top-up", signature));
+    show_answer(sign(table, b"top-up", signature));
     show_field(digest(signature));
     verdicts(h1, h2, t, table, signature);
     end_line();
@@ -160,8 +173,8 @@ fn count_of(answer: Grown) -> u64 {
 // A key made, moved to step a, and from there to step b.
 fn with_jump(before: Folded, h1: u64, h2: u64, a: u64, b: u64, table: &mut [u8]) -> Folded {
     make(h1, h2, table);
-    key::move_to(table, a);
-    let count = count_of(key::move_to(table, b));
+    move_to(table, a);
+    let count = count_of(move_to(table, b));
     let chain = before.chain;
     Folded {
         chain: blake2b::hash_32_32(chain, digest(table)),
@@ -221,7 +234,7 @@ fn tallest(table: &mut [u8])
 {
     io::write_all(STDOUT_FILENO, b"tallest");
     show_grown(make(12, 12, table));
-    show_grown(key::move_to(table, 16777215));
+    show_grown(move_to(table, 16777215));
     show_field(digest(table));
     show_grown(make(13, 0, table));
     show_grown(make(0, 13, table));
@@ -229,7 +242,7 @@ fn tallest(table: &mut [u8])
 }
 
 fn signed(table: &[u8], message: &[u8], signature: &mut [u8]) {
-    show_answer(key::sign(table, message, signature));
+    show_answer(sign(table, message, signature));
     show_field(digest(signature));
 }
 
@@ -245,6 +258,135 @@ fn messages(table: &mut [u8], message: &[u8], signature: &mut [u8])
     end_line();
 }
 
+fn show_make(h1: u64, h2: u64, seed: &mut [u8], table: &mut [u8], tally: &mut u64) {
+    show_grown(key::make(h1, h2, seed, table, tally));
+    show_number(*tally);
+    show_field(digest(seed));
+    show_field(digest(table));
+}
+
+// The line of a make from this tally on, over a key of these heights, and of one more with the tally left.
+fn make_from(h1: u64, h2: u64, first: u64, table: &mut [u8]) {
+    make(h1, h2, table);
+    io::write_all(STDOUT_FILENO, b"make");
+    show_number(h1);
+    show_number(h2);
+    show_number(first);
+    let mut seed = [7u8; 32];
+    let mut tally = first;
+    show_make(h1, h2, &mut seed, table, &mut tally);
+    show_make(h1, h2, &mut seed, table, &mut tally);
+    end_line();
+}
+
+// Each of the calls of making fails in its turn, and at last none.
+fn failing_makes(table: &mut [u8]) {
+    let mut k: u64 = 0;
+    while k < 10 {
+        make_from(2, 2, SILENT - k, table);
+        k += 1;
+    }
+}
+
+// Tallies near 0, 2^32 and 2^64.
+fn edge_makes(table: &mut [u8]) {
+    make_from(2, 2, 0, table);
+    make_from(2, 2, 92, table);
+    make_from(2, 2, 4294967292, table);
+    make_from(2, 2, 18446744069414584416, table);
+    make_from(2, 2, 18446744073709551607, table);
+    make_from(2, 2, 18446744073709551612, table);
+    make_from(2, 2, 18446744073709551615, table);
+}
+
+fn show_move(table: &mut [u8], step: u64, tally: &mut u64) {
+    show_grown(key::move_to(table, step, tally));
+    show_number(*tally);
+    show_field(digest(table));
+}
+
+// A key of heights 2 and 2 at this step.
+fn at_step(a: u64, table: &mut [u8]) {
+    make(2, 2, table);
+    move_to(table, a);
+}
+
+// The line of a move from step a to step b, from this tally on, and of one more with the tally left.
+fn move_from(a: u64, b: u64, first: u64, table: &mut [u8]) {
+    at_step(a, table);
+    io::write_all(STDOUT_FILENO, b"move");
+    show_number(a);
+    show_number(b);
+    show_number(first);
+    let mut tally = first;
+    show_move(table, b, &mut tally);
+    show_move(table, b, &mut tally);
+    end_line();
+}
+
+// Each of the calls of a move fails in its turn, and at last none.
+fn failing_moves(a: u64, b: u64, table: &mut [u8]) {
+    let mut k: u64 = 0;
+    while k < 8 {
+        move_from(a, b, SILENT - k, table);
+        k += 1;
+    }
+}
+
+// Of every move to the next step, of one that is longer, and of one whose tally wraps.
+fn all_failing_moves(table: &mut [u8]) {
+    let mut a: u64 = 0;
+    while a < 15 {
+        failing_moves(a, a + 1, table);
+        a += 1;
+    }
+    failing_moves(1, 14, table);
+    move_from(7, 8, 18446744073709551613, table);
+}
+
+fn show_sign(table: &[u8], signature: &mut [u8], tally: &mut u64) {
+    show_answer(key::sign(table, b"top-up", signature, tally));
+    show_number(*tally);
+    show_field(digest(signature));
+}
+
+// The line of a signature from this tally on, over another one, and of one more with the tally left.
+fn sign_from(first: u64, table: &[u8], signature: &mut [u8]) {
+    sign(table, b"refund", signature);
+    io::write_all(STDOUT_FILENO, b"sign");
+    show_number(first);
+    let mut tally = first;
+    show_sign(table, signature, &mut tally);
+    show_sign(table, signature, &mut tally);
+    end_line();
+}
+
+fn failing_signs(table: &mut [u8], signature: &mut [u8]) {
+    at_step(5, table);
+    sign_from(SILENT, table, signature);
+    sign_from(SILENT - 1, table, signature);
+    sign_from(18446744073709551615, table, signature);
+}
+
+fn unanswered(table: &mut [u8], signature: &mut [u8]) {
+    failing_makes(table);
+    edge_makes(table);
+    all_failing_moves(table);
+    failing_signs(table, signature);
+}
+
+fn all_unanswered() {
+    let mut table = room();
+    let mut signature = room();
+    unanswered(&mut table[0..712], &mut signature[0..352]);
+}
+
+// The tallest key, whose tally wraps before the call that fails.
+fn tallest_unanswered() {
+    let mut table = room();
+    make_from(12, 12, 18446744073709543616, &mut table);
+}
+
 fn main() {
     let mut table = room();
     let mut signature = room();
@@ -255,4 +397,6 @@ fn main() {
     key_of(3, 2, 32, &mut table, &mut signature);
     tallest(&mut table);
     messages(&mut table[0..264], &message, &mut signature[0..224]);
+    all_unanswered();
+    tallest_unanswered();
 }

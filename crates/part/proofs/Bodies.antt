@@ -9,7 +9,7 @@ use lib.Seq.{take-at, drop-at, drop-drop, take-take, take-append-le, length-take
 use lib.Pow.{pow-mono}
 use borrow.Author.Tests.{eq-eqb, ne-eqb}
 use Rattle.fields.specs.Fields.{part, put}
-use Rattle.fields.proofs.Laws.{put-after, tail-whole, tail-back}
+use Rattle.fields.proofs.Laws.{put-after, length-tail, tail-whole, tail-back}
 use Rattle.tree.specs.Seeds.{left, right}
 use Rattle.tree.specs.Tree.{treeSize, subtreeHash, treeAt, withoutSecret}
 use Rattle.tree.specs.Move.{movedTree, countMove, countNewAt}
@@ -71,6 +71,11 @@ closed d stored root h t {next = next} {d₁ = d₁} l ex e₁ em e₂ =
     let lw : length (w ++ g) ≡ nextAt h = length-append w g ∙ rw (without-size (topIn d h) h lt, sum-size h (topIn d h) t root lz) in
     let f₁ : d₁ ≡ (w ++ g) ++ rest = e₁ ∙ sym (append-assoc w g rest) in
     e₂ ∙ rw (em, f₁, put-after (w ++ g) rest next (nextAt h) 32 lw, append-assoc w g (next ++ drop 32 rest), drop-drop 32 (nextAt h) d, ex)
+
+-- a tail that was lent comes back as long as it was
+pub tail-size : (xs ys : List ℕ) (a : ℕ) → a ≤ length xs → length ys ≡ length (part xs a (length xs - a))
+    → length (take a xs ++ (ys ++ drop (length xs - a) (drop a xs))) ≡ length xs
+tail-size xs ys a l e = rw (tail-back xs ys a, length-append, length-take-le a xs l, e, length-tail xs a) (omega arith)
 
 -- a tree lent at the front of a body comes back, and then the part below it
 abbrev fronted : List ℕ → ℕ → List ℕ → List ℕ

@@ -1,13 +1,15 @@
 -- What signing leaves and what the verdict is, from what the calls ensure.
 use mathlib.Core.Path.{_≡_, refl, sym, ap, _∙_}
 use mathlib.Core.List.{List, [], _∷_, _++_, append-nil}
-use mathlib.Core.Bool.{Bool, true, false, _&&_}
+use mathlib.Core.Bool.{Bool, true, false, not, _&&_}
+use borrow.Author.Tests.{not-true}
 use Prim.Native.Nat.{ℕ, _+_, _-_, _/_, _%_, _^_, _≤_}
 use native.Mathlib.Omega.{arith}
-use lib.ListN.{length, take, drop, length-append, length-drop}
+use lib.ListN.{length, take, drop, length-append, length-drop, take-append-drop}
 use lib.Seq.{take-at, drop-drop, length-take-le}
 use Rattle.fields.specs.Fields.{part, put}
 use Rattle.fields.proofs.Laws.{length-part, put-over, tail-whole, tail-back}
+use Rattle.ed25519.specs.Tally.{Leaves}
 use Rattle.tree.specs.Tree.{treeSize, rootIn}
 use Rattle.tree.specs.Sum.{sumSize, sumSignature, pathFits, leafAccepts, sumVerdict}
 use Rattle.rules.specs.Part.{total, outer, inner, nextAt, seamSize, bondIn, sumsSize, rootsSize, sumsIn, rootsIn, partSignature, sumsVerdict, partVerdict}
@@ -17,6 +19,10 @@ use Rattle.part.specs.Work.{pathsFit, leavesAccept}
 pub sums-last : (d m : List ℕ) (h t : ℕ) {hs ys : List ℕ} → hs ≡ [] → ys ≡ sumSignature d h t m → ys ≡ sumsIn d h hs t m
 unfolding sumsIn
 sums-last d m h t e ey = rw e ey
+
+pub leaves-last : (d m : List ℕ) (h t : ℕ) {hs : List ℕ} {g : Bool} {x y : List ℕ} → hs ≡ [] → Leaves g (sumSignature d h t m) x y
+    → Leaves g (sumsIn d h hs t m) x y
+leaves-last d m h t e l = record { is = l .is ∙ rw (sums-last d m h t e refl) }
 
 pub sums-more : (d m out : List ℕ) (h g t : ℕ) {hs gs : List ℕ} {w size next below first : ℕ} {ys d₂ : List ℕ} → hs ≡ g ∷ gs → seamSize h ≤ length d
     → sumSize h ≤ length out → w ≡ 2 ^ total g gs → size ≡ treeSize h → next ≡ nextAt h → below ≡ seamSize h → first ≡ sumSize h
@@ -59,6 +65,9 @@ part-signed d m out h t hs {sums} {size} {ys} {zs} ly lo es ey ez =
     let d₁ = ys ++ drop sums out in
     let l : length d₁ ≡ length out = rw (length-append, ly, length-drop) (omega arith) in
     rw (es ∙ sym l, tail-back d₁ zs sums, take-at ys (drop sums out) sums ly, ey, ez)
+
+pub unsigned : (out : List ℕ) (sums : ℕ) {g : Bool} {w x ys : List ℕ} → not g ≡ true → Leaves g w (take sums out) ys → Leaves false x out (ys ++ drop sums out)
+unsigned out sums {g} {w} {x} {ys} f l = record { is = rw (l .is, not-true g f) (take-append-drop sums out) }
 
 -- the verdict: every path, and then every leaf
 swap : (a b c d : Bool) → ((a && b) && (c && d)) ≡ ((a && c) && (b && d))
@@ -106,8 +115,8 @@ module _ (x : List ℕ) (h g at roots : ℕ) {hs gs : List ℕ} {first : ℕ} (e
 
     pub strays : y ≡ false → false ≡ pathsFit root h hs t (drop at x) (drop roots x)
     unfolding pathsFit
-    strays not =
-        let p : pathFits root h (outer (total g gs) t) (take (sumSize h) (drop at x)) ≡ false = rw (ew, n′) at (sym ey ∙ not) in
+    strays stray =
+        let p : pathFits root h (outer (total g gs) t) (take (sumSize h) (drop at x)) ≡ false = rw (ew, n′) at (sym ey ∙ stray) in
         rw e (rw p)
 
   module _ {next : List ℕ} {y : Bool} (ex : next ≡ part x roots 32) (ey : y ≡ leafAccepts next (part x at (at + first - at))) where
@@ -120,8 +129,8 @@ module _ (x : List ℕ) (h g at roots : ℕ) {hs gs : List ℕ} {first : ℕ} (e
 
     pub refused : (m : List ℕ) → y ≡ false → false ≡ leavesAccept h hs m (drop at x) (drop roots x)
     unfolding leavesAccept
-    refused m not =
-        let p : leafAccepts (take 32 (drop roots x)) (take (sumSize h) (drop at x)) ≡ false = rw (ex, n′) at (sym ey ∙ not) in
+    refused m stray =
+        let p : leafAccepts (take 32 (drop roots x)) (take (sumSize h) (drop at x)) ≡ false = rw (ex, n′) at (sym ey ∙ stray) in
         rw e (rw p)
 
 -- `accepted`
@@ -135,6 +144,6 @@ module _ (root m x : List ℕ) (h t : ℕ) (hs : List ℕ) {sums : ℕ} {y : Boo
 
   pub unasked : y ≡ false → false ≡ partVerdict root h hs t m x
   unfolding partVerdict
-  unasked not =
-      let p : pathsFit root h hs t x (drop (sumsSize h hs) x) ≡ false = rw es at (sym ey ∙ not) in
+  unasked stray =
+      let p : pathsFit root h hs t x (drop (sumsSize h hs) x) ≡ false = rw es at (sym ey ∙ stray) in
       sym (paths-then-leaves hs root h t m x (drop (sumsSize h hs) x) ∙ rw p)

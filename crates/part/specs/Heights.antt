@@ -16,3 +16,7 @@ belowOf x = listed (x .trees) (x .second) (x .third)
 -- one to three trees, none too high
 abbrev pub Fits : Heights → Type 0
 Fits x = (1 ≤ x .trees) × (x .trees ≤ 3) × (x .top ≤ maxHeight) × (x .second ≤ maxHeight) × (x .third ≤ maxHeight)
+
+-- the longest part of a key: two trees as high as they may be
+abbrev pub longest : ℕ
+longest = 2944

@@ -1,13 +1,18 @@
--- Definitions that the code's steps are stated by, beside the rules of `Part`: a step of the top tree entered by a move, and the verdict of rule 8 in the
--- order in which it is cheap.
+-- Definitions that the code's steps are stated by, beside the rules of `Part`: a step of the top tree entered by a move, the verdict of rule 8 in the order in
+-- which it is cheap, and work over a body under a tally (request 4).
 use mathlib.Core.List.{List, [], _∷_}
-use mathlib.Core.Bool.{Bool, _&&_}
-use Prim.Native.Nat.{ℕ, _-_}
+use mathlib.Core.Bool.{Bool, true, _&&_}
+use mathlib.Core.Path.{_≡_}
+use Prim.Native.Nat.{ℕ, _+_, _-_}
 use lib.ListN.{take, drop}
 use Rattle.tree.specs.Seeds.{left}
-use Rattle.tree.specs.Move.{movedTree}
+use Rattle.ed25519.specs.Tally.{Run, asked, Leaves}
+use Rattle.tree.specs.Answers.{grewOf}
+use Rattle.tree.specs.declared.moving.Grew.{Grew}
+use Rattle.tree.specs.Move.{movedTree, countMove, callsMove}
 use Rattle.tree.specs.Sum.{sumSize, pathFits, leafAccepts}
-use Rattle.rules.specs.Part.{total, outer, inner, topIn, nextIn, chain, seam, partRoot, partAt}
+use Rattle.rules.specs.Calls.{Work}
+use Rattle.rules.specs.Part.{total, outer, inner, topIn, nextIn, chain, seam, partRoot, partAt, movedPart, countNewPart, countPart, callsNewPart, callsPart}
 
 -- the top tree moved from its step a to its step b, and a new part below it at step t
 unfoldable pub crossed : List ℕ → ℕ → ℕ → List ℕ → ℕ → ℕ → ℕ → List ℕ
@@ -27,3 +32,26 @@ unfoldable pub leavesAccept : ℕ → List ℕ → List ℕ → List ℕ → Lis
 leavesAccept h [] m sums roots = leafAccepts m (take (sumSize h) sums)
 leavesAccept h (g ∷ hs) m sums roots =
     leafAccepts (take 32 roots) (take (sumSize h) sums) && leavesAccept g hs m (drop (sumSize h) sums) (drop 32 roots)
+
+-- The work over a body that grows a new part, moves a part, and moves one from a step of its top tree to a later one.
+unfoldable pub newWork : List ℕ → ℕ → List ℕ → ℕ → Work
+newWork s h hs t = record { calls = callsNewPart h hs; count = countNewPart h hs t; body = partAt s h hs t }
+
+unfoldable pub partWork : List ℕ → ℕ → List ℕ → ℕ → ℕ → Work
+partWork d h hs a b = record { calls = callsPart h hs a b; count = countPart h hs a b; body = movedPart d h hs a b }
+
+unfoldable pub crossWork : List ℕ → ℕ → ℕ → List ℕ → ℕ → ℕ → ℕ → Work
+crossWork d h g hs a b t =
+    record { calls = callsMove h a b + (callsNewPart g hs + 1); count = countMove h a b + countNewPart g hs t; body = crossed d h g hs a b t }
+
+-- work w under tally t: it answers g, leaves the tally t′, and has left the body d where every call was answered; of another body nothing is said
+pub record Works (w : Work) (t : ℕ) (g : Grew) (t′ : ℕ) (d : List ℕ) : Type 0 where
+  pub answers : g ≡ grewOf (asked (w .calls) t .given) (w .count)
+  pub tallies : t′ ≡ asked (w .calls) t .tally
+  pub done : asked (w .calls) t .given ≡ true → d ≡ w .body
+
+-- the same, and where a call was not answered the body is as it was
+pub record Commits (w : Work) (t : ℕ) (g : Grew) (t′ : ℕ) (d d′ : List ℕ) : Type 0 where
+  pub answers : g ≡ grewOf (asked (w .calls) t .given) (w .count)
+  pub tallies : t′ ≡ asked (w .calls) t .tally
+  pub leaves : Leaves (asked (w .calls) t .given) (w .body) d d′

@@ -1,10 +1,12 @@
 // Where the fields of a part and of a signature stand.
 ghost use mathlib.Core.Path.{_≡_};
 ghost use Prim.Native.Nat.{_≤_};
+ghost use lib.ListN.{length};
 ghost use Rattle.tree.specs.Tree.{treeSize};
 ghost use Rattle.tree.specs.Sum.{sumSize};
 ghost use Rattle.rules.specs.Part.{nextAt, seamSize};
 ghost use Rattle.rules.specs.Table.{maxHeight};
+ghost use Rattle.part.specs.Heights.{longest};
 
 pub fn tree_size(h: usize) -> usize
     requires { ⌜ h ≤ maxHeight ⌝ }
@@ -34,4 +36,11 @@ pub fn seam_size(h: usize) -> usize
     ensures { λ r. ⌜ r ≡ seamSize h ⌝ }
 {
     next_at(h) + 32
+}
+
+// Room for the longest part. The contract gives its length alone, so that no goal spells the bytes out.
+pub(crate) fn room() -> [u8; 2944]
+    ensures { λ r. ⌜ length r ≡ longest ⌝ }
+{
+    [0u8; 2944]
 }

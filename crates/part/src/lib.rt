@@ -8,8 +8,7 @@ mod seam;
 mod signing;
 
 pub use accepting::accepted;
-pub use growing::count_new_part;
-pub use growing::grow_part;
+pub use growing::make_part;
 pub use heights::Heights;
 pub use heights::two;
 pub use moving::move_part;

@@ -2,7 +2,7 @@
 -- 0, done or accepted, and 100, well formed but not accepted, are no refusals: the answers of each call give them.
 use Prim.Native.Nat.{ℕ}
 use Rattle.refusal.specs.declared.Refusal.{Refusal}
-use Rattle.refusal.specs.declared.Refusal.the-variants.{Height, SeedOrKey, Table, Length, NotLater, PastEnd, TooLong, Entries}
+use Rattle.refusal.specs.declared.Refusal.the-variants.{Height, SeedOrKey, Table, Length, NotLater, PastEnd, TooLong, Entries, Unanswered}
 
 abbrev pub numberOf : Refusal → ℕ
 -- a height above 12
@@ -22,3 +22,5 @@ numberOf PastEnd = 6
 numberOf TooLong = 7
 -- N outside 1 to 256, of a fair day that is made or verified
 numberOf Entries = 8
+-- a call of the Ed25519 module was not answered
+numberOf Unanswered = 9

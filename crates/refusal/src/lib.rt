@@ -11,6 +11,7 @@ pub enum Refusal {
     PastEnd,
     TooLong,
     Entries,
+    Unanswered,
 }
 
 // The number that a caller in C gets.
@@ -26,5 +27,6 @@ pub fn number(why: Refusal) -> u32
         Refusal::PastEnd => 6,
         Refusal::TooLong => 7,
         Refusal::Entries => 8,
+        Refusal::Unanswered => 9,
     }
 }

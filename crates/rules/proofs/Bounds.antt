@@ -1,8 +1,12 @@
 -- The count's bounds, over a list of heights and then at two trees as document 01 states them.
 use mathlib.Core.Path.{_≡_, refl}
+use lib.ListN.{length}
+use Rattle.fields.specs.Tests.{pick}
+use Rattle.tree.specs.Seeds.{goesLeft, inRight}
+use Rattle.tree.specs.Move.{countMove, countNewAt, callsMove}
 use mathlib.Core.Bool.{Bool, true, false}
 use mathlib.Core.List.{List, [], _∷_}
-use Prim.Native.Nat.{ℕ, suc, _+_, _-_, _^_, _≤_}
+use Prim.Native.Nat.{ℕ, zero, suc, _+_, _-_, _^_, _≤_}
 use native.Mathlib.Numerals.{add-one}
 use native.Mathlib.Nat.{pow-suc}
 use native.Mathlib.Omega.{arith}
@@ -10,7 +14,7 @@ use lib.Dec.{eqb}
 use lib.Pow.{pow-pos}
 use borrow.Author.Tests.{eq-eqb}
 use Rattle.tree.proofs.Laws.{count-bound, count-new-bound}
-use Rattle.rules.specs.Part.{total, outer, inner, countNewPart, countPart}
+use Rattle.rules.specs.Part.{total, outer, inner, countNewPart, countPart, callsNewPart, callsPart, rootsPart}
 
 -- a new part: every tree of it is new
 unfoldable pub newBound : ℕ → List ℕ → ℕ
@@ -62,3 +66,36 @@ count-across h1 h2 a b =
     let p = pow-pos h1 in
     let q = pow-pos (suc h2) in
     rw add-one (omega arith)
+
+-- The module calls: at most the rules' count and one for each root signed (request 4).
+tree-calls : (h a b : ℕ) → callsMove h a b ≤ countMove h a b
+unfolding callsMove countMove
+tree-calls zero a b = omega arith
+tree-calls (suc h) a b = go (goesLeft h b) (goesLeft h a) (tree-calls h a b) (tree-calls h (inRight h a) (inRight h b))
+  where
+    go : (x y : Bool) → callsMove h a b ≤ countMove h a b → callsMove h (inRight h a) (inRight h b) ≤ countMove h (inRight h a) (inRight h b)
+        → pick x (callsMove h a b) (pick y (2 ^ h) (callsMove h (inRight h a) (inRight h b)))
+        ≤ pick x (countMove h a b) (pick y (2 ^ h + countMove h 0 (inRight h b)) (countMove h (inRight h a) (inRight h b)))
+    go true y p q = p
+    go false true p q = omega arith
+    go false false p q = q
+
+pub new-calls : (hs : List ℕ) (h t : ℕ) → callsNewPart h hs ≤ countNewPart h hs t + length hs
+unfolding callsNewPart countNewPart countNewAt
+new-calls [] h t = omega arith
+new-calls (g ∷ hs) h t = let k = new-calls hs g (inner (total g hs) t) in omega arith
+
+pub part-calls : (hs : List ℕ) (h a b : ℕ) → callsPart h hs a b ≤ countPart h hs a b + rootsPart h hs a b
+unfolding callsPart countPart rootsPart
+part-calls [] h a b = let k = tree-calls h a b in omega arith
+part-calls (g ∷ hs) h a b = go (part-calls hs g (inner (total g hs) a) (inner (total g hs) b)) (eqb (outer (total g hs) a) (outer (total g hs) b))
+  where
+    n : ℕ
+    n = total g hs
+
+    go : callsPart g hs (inner n a) (inner n b) ≤ countPart g hs (inner n a) (inner n b) + rootsPart g hs (inner n a) (inner n b) → (x : Bool)
+        → pick x (callsPart g hs (inner n a) (inner n b)) (callsMove h (outer n a) (outer n b) + (callsNewPart g hs + 1))
+        ≤ pick x (countPart g hs (inner n a) (inner n b)) (countMove h (outer n a) (outer n b) + countNewPart g hs (inner n b))
+        + pick x (rootsPart g hs (inner n a) (inner n b)) (suc (length hs))
+    go p true = p
+    go p false = let k = tree-calls h (outer n a) (outer n b) in let l = new-calls hs g (inner n b) in omega arith

@@ -13,7 +13,7 @@ use Rattle.fields.proofs.Digits.{four-back}
 use Rattle.refusal.specs.declared.Refusal.the-variants.{NotLater, PastEnd}
 use Rattle.blake2b.specs.Calls.{limit}
 use Rattle.tree.specs.Tree.{zeros}
-use Rattle.rules.specs.Part.{partSize, partRoot, partAt, countNewPart, countPart, partSignature, partVerdict}
+use Rattle.rules.specs.Part.{partSize, partRoot, partAt, countNewPart, countPart, callsNewPart, callsPart, partSignature, partVerdict}
 use Rattle.rules.specs.Table.{maxHeight, steps, tableSize, signatureSize, header, headerBytes, headerIn, bodyIn, headerOf, tableAt}
 use Rattle.rules.specs.declared.Found.the-variants.{Good}
 use Rattle.rules.specs.declared.Grown.the-variants as grown
@@ -51,7 +51,7 @@ laid s h1 h2 t = refl
 -- THE TABLE AT A STEP, of a key that grows from a seed of 32 bytes
 module _ (s : List ℕ) (h1 h2 : ℕ) (ls : length s ≡ 32) (l1 : h1 ≤ maxHeight) (l2 : h2 ≤ maxHeight) where
   pub made-at : (d : List ℕ) → length d ≡ tableSize h1 h2
-      → makeOutcome h1 h2 s d ≡ record { answer = grown.Done (countNewPart h1 (h2 ∷ []) 0); seed = zeros; table = tableAt s h1 h2 0 }
+      → makeOutcome h1 h2 s d ≡ record { calls = callsNewPart h1 (h2 ∷ []); answer = grown.Done (countNewPart h1 (h2 ∷ []) 0); seed = zeros; table = tableAt s h1 h2 0 }
   unfolding makeOutcome makeWork tableAt
   made-at d ld = rw (le-ltb maxHeight h1 l1, le-ltb maxHeight h2 l2, eq-eqb (length s) 32 ls, eq-eqb (length d) (tableSize h1 h2) ld)
 
@@ -74,15 +74,15 @@ module _ (s : List ℕ) (h1 h2 : ℕ) (ls : length s ≡ 32) (l1 : h1 ≤ maxHei
   not-later-at a b u g = rw (header-at a u, lt-leb (steps h1 h2) b (let z : b < steps h1 h2 = omega arith in z), le-leb b a g)
 
   pub moved-at : (a b : ℕ) → a < b → b < steps h1 h2
-      → moveOutcome (tableAt s h1 h2 a) b ≡ record { answer = grown.Done (countPart h1 (h2 ∷ []) a b); table = tableAt s h1 h2 b }
+      → moveOutcome (tableAt s h1 h2 a) b ≡ record { calls = callsPart h1 (h2 ∷ []) a b; answer = grown.Done (countPart h1 (h2 ∷ []) a b); table = tableAt s h1 h2 b }
   unfolding moveOutcome moveUnder moveWork
   moved-at a b lt u =
       rw (header-at a (let z : a < steps h1 h2 = omega arith in z), lt-leb (steps h1 h2) b u, lt-leb b a lt, body-at s h1 h2 a, part-moves (h2 ∷ []) s h1 a b lt u)
-      (ap (λ (d : List ℕ). record { answer = grown.Done (countPart h1 (h2 ∷ []) a b); table = d }) (laid s h1 h2 b))
+      (ap (λ (d : List ℕ). record { calls = callsPart h1 (h2 ∷ []) a b; answer = grown.Done (countPart h1 (h2 ∷ []) a b); table = d }) (laid s h1 h2 b))
 
   pub sign-at : (t : ℕ) (m out : List ℕ) → t < steps h1 h2 → length m ≤ limit → length out ≡ signatureSize h1 h2
       → signOutcome (tableAt s h1 h2 t) m out
-      ≡ record { answer = answer.Done; table = tableAt s h1 h2 t; message = m; out = partSignature (partAt s h1 (h2 ∷ []) t) h1 (h2 ∷ []) t m }
+      ≡ record { calls = 1; answer = answer.Done; table = tableAt s h1 h2 t; message = m; out = partSignature (partAt s h1 (h2 ∷ []) t) h1 (h2 ∷ []) t m }
   unfolding signOutcome signUnder
   sign-at t m out u lm lo = rw (header-at t u, le-ltb limit (length m) lm, eq-eqb (length out) (signatureSize h1 h2) lo, body-at s h1 h2 t)
 

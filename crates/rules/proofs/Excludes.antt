@@ -2,6 +2,7 @@
 -- its lemma; the verdict's are in Verdicts.antt.
 use mathlib.Core.Path.{_≡_, sym, ap, _∙_}
 use mathlib.Core.List.{List, [], _++_}
+use mathlib.Core.Bool.{true}
 use Prim.Native.Nat.{ℕ}
 use native.Mathlib.Omega.{arith}
 use lib.ListN.{getD, replicate}
@@ -10,23 +11,27 @@ use Rattle.refusal.specs.declared.Refusal.the-variants.{Height, SeedOrKey, Tabl
 use Rattle.blake2b.specs.Calls.{Hashes, hashOutcome}
 use Rattle.blake2b.specs.declared.Answer as hashed
 use Rattle.blake2b.specs.declared.Answer.the-variants as hashed-as
+use Rattle.ed25519.specs.Tally.{Run, asked}
 use Rattle.tree.specs.Tree.{zeros}
-use Rattle.tree.specs.Move.{entered, movedTree, countMove, countNewAt}
-use Rattle.rules.specs.Part.{seam, movedPart, countNewPart, countPart, sumsIn, partSignature}
+use Rattle.tree.specs.Move.{entered, movedTree, countMove, countNewAt, callsMove}
+use Rattle.rules.specs.Part.{seam, movedPart, countNewPart, countPart, callsNewPart, callsPart, sumsIn, partSignature}
 use Rattle.rules.specs.Table.{header, headerBytes, headerIn, wellFormed, headerOf}
 use Rattle.rules.specs.Calls.{
   moveWork,
   Makes,
   makeOutcome,
+  makeTallied,
   Reads,
   keyUnder,
   keyOutcome,
   Moves,
   moveUnder,
   moveOutcome,
+  moveTallied,
   Signs,
   signUnder,
   signOutcome,
+  signTallied,
   Verifies,
   verdictOf,
   verifyOutcome,
@@ -43,48 +48,48 @@ unfoldable pub plain : ℕ → ℕ → List ℕ
 plain t x = headerBytes (header 1 0 t) ++ replicate 384 x
 
 -- A move of it from step 0 to step 1 is done, with A14's count.
-pub not-refusing : (a : Grown) (d : List ℕ) → Moves (plain 0 7) 1 a d → a ≡ grown.Done 2
-unfolding plain headerBytes moveOutcome moveUnder headerOf wellFormed headerIn fourIn moveWork countPart countNewPart countNewAt countMove
-not-refusing a d m = m .answers
+pub not-refusing : (a : Grown) (d : List ℕ) (t t′ : ℕ) → asked 3 t .given ≡ true → Moves (plain 0 7) 1 t a d t′ → a ≡ grown.Done 2
+unfolding plain headerBytes moveTallied moveOutcome moveUnder headerOf wellFormed headerIn fourIn moveWork countPart countNewPart countNewAt countMove callsPart callsNewPart callsMove
+not-refusing a d t t′ y m = m .answers ∙ rw y
 
 -- It writes the step, so the table is not left;
-pub not-idle : (a : Grown) → Moves (plain 0 7) 1 a (plain 0 7) → ⊥
-unfolding plain headerBytes moveOutcome moveUnder headerOf wellFormed headerIn fourIn moveWork
-not-idle a m = let e : _≡_ {A = ℕ} 0 1 = ap (λ (d : List ℕ). getD d 4 0) (m .leaves) in omega arith
+pub not-idle : (a : Grown) (t t′ : ℕ) → asked 3 t .given ≡ true → Moves (plain 0 7) 1 t a (plain 0 7) t′ → ⊥
+unfolding plain headerBytes moveTallied callsPart callsNewPart callsMove moveOutcome moveUnder headerOf wellFormed headerIn fourIn moveWork
+not-idle a t t′ y m = let e : _≡_ {A = ℕ} 0 1 = ap (λ (d : List ℕ). getD d 4 0) (rw y at (m .leaves)) in omega arith
 
 -- and it makes the parting level's seed zero, so more than the step is written.
-pub not-only-step : (a : Grown) → Moves (plain 0 7) 1 a (plain 1 7) → ⊥
-unfolding plain headerBytes moveOutcome moveUnder headerOf wellFormed headerIn fourIn moveWork movedPart seam movedTree entered zeros
-not-only-step a m = let e : _≡_ {A = ℕ} 7 0 = ap (λ (d : List ℕ). getD d 8 0) (m .leaves) in omega arith
+pub not-only-step : (a : Grown) (t t′ : ℕ) → asked 3 t .given ≡ true → Moves (plain 0 7) 1 t a (plain 1 7) t′ → ⊥
+unfolding plain headerBytes moveTallied callsPart callsNewPart callsMove moveOutcome moveUnder headerOf wellFormed headerIn fourIn moveWork movedPart seam movedTree entered zeros
+not-only-step a t t′ y m = let e : _≡_ {A = ℕ} 7 0 = ap (λ (d : List ℕ). getD d 8 0) (rw y at (m .leaves)) in omega arith
 
 -- The same above step 0, of a table of heights 1 and 1, where the parent's step changes and where it stays: a move grows on every call, not on its first alone.
 unfoldable pub taller : ℕ → ℕ → List ℕ
 taller t x = headerBytes (header 1 1 t) ++ replicate 480 x
 
-pub not-only-step-across : (a : Grown) → Moves (taller 1 7) 2 a (taller 2 7) → ⊥
-unfolding taller headerBytes moveOutcome moveUnder headerOf wellFormed headerIn fourIn moveWork movedPart seam movedTree entered zeros
-not-only-step-across a m = let e : _≡_ {A = ℕ} 7 0 = ap (λ (d : List ℕ). getD d 8 0) (m .leaves) in omega arith
+pub not-only-step-across : (a : Grown) (t t′ : ℕ) → asked 4 t .given ≡ true → Moves (taller 1 7) 2 t a (taller 2 7) t′ → ⊥
+unfolding taller headerBytes moveTallied callsPart callsNewPart callsMove moveOutcome moveUnder headerOf wellFormed headerIn fourIn moveWork movedPart seam movedTree entered zeros
+not-only-step-across a t t′ y m = let e : _≡_ {A = ℕ} 7 0 = ap (λ (d : List ℕ). getD d 8 0) (rw y at (m .leaves)) in omega arith
 
-pub not-only-step-within : (a : Grown) → Moves (taller 2 7) 3 a (taller 3 7) → ⊥
-unfolding taller headerBytes moveOutcome moveUnder headerOf wellFormed headerIn fourIn moveWork movedPart seam movedTree entered zeros
-not-only-step-within a m = let e : _≡_ {A = ℕ} 7 0 = ap (λ (d : List ℕ). getD d 328 0) (m .leaves) in omega arith
+pub not-only-step-within : (a : Grown) (t t′ : ℕ) → asked 1 t .given ≡ true → Moves (taller 2 7) 3 t a (taller 3 7) t′ → ⊥
+unfolding taller headerBytes moveTallied callsPart callsNewPart callsMove moveOutcome moveUnder headerOf wellFormed headerIn fourIn moveWork movedPart seam movedTree entered zeros
+not-only-step-within a t t′ y m = let e : _≡_ {A = ℕ} 7 0 = ap (λ (d : List ℕ). getD d 328 0) (rw y at (m .leaves)) in omega arith
 
 -- Two tables with other stored signatures sign one message otherwise: no signature is fixed.
-pub not-fixed : (x : List ℕ) {a b : Answer} {d₁ d₂ m₁ m₂ : List ℕ} → Signs (plain 0 7) [] (replicate 256 0) a d₁ m₁ x
-    → Signs (plain 0 8) [] (replicate 256 0) b d₂ m₂ x → ⊥
-unfolding plain headerBytes signOutcome signUnder headerOf wellFormed headerIn fourIn partSignature sumsIn
-not-fixed x p q =
-    let e : _≡_ {A = ℕ} 7 8 = ap (λ (d : List ℕ). getD d 0 0) (sym (p .leaves) ∙ q .leaves) in
+pub not-fixed : (x : List ℕ) (t : ℕ) → asked 1 t .given ≡ true → {a b : Answer} {d₁ d₂ m₁ m₂ : List ℕ} {t₁ t₂ : ℕ} → Signs (plain 0 7) [] (replicate 256 0) t a d₁ m₁ x t₁
+    → Signs (plain 0 8) [] (replicate 256 0) t b d₂ m₂ x t₂ → ⊥
+unfolding plain headerBytes signTallied signOutcome signUnder headerOf wellFormed headerIn fourIn partSignature sumsIn
+not-fixed x t y p q =
+    let e : _≡_ {A = ℕ} 7 8 = ap (λ (d : List ℕ). getD d 0 0) (sym (rw y at (p .leaves)) ∙ (rw y at (q .leaves))) in
     omega arith
 
 -- make: 1 before 2, 2 before 4
-module _ {a : Grown} {s d : List ℕ} where
-  pub make-1-2 : Makes 13 0 [] [] a s d → a ≡ grown.Refused Height
-  unfolding makeOutcome
+module _ {a : Grown} {s d : List ℕ} {t t′ : ℕ} where
+  pub make-1-2 : Makes 13 0 [] [] t a s d t′ → a ≡ grown.Refused Height
+  unfolding asked makeTallied makeOutcome
   make-1-2 m = m .answers
 
-  pub make-2-4 : Makes 0 0 [] [] a s d → a ≡ grown.Refused SeedOrKey
-  unfolding makeOutcome
+  pub make-2-4 : Makes 0 0 [] [] t a s d t′ → a ≡ grown.Refused SeedOrKey
+  unfolding asked makeTallied makeOutcome
   make-2-4 m = m .answers
 
 -- read key: 3 before 4; move: 3 before 6 (6 and 5 never meet)
@@ -92,18 +97,18 @@ pub key-3-4 : {a : Answer} {d out : List ℕ} → Reads [] [] a d out → a ≡ 
 unfolding keyOutcome keyUnder headerOf wellFormed
 key-3-4 r = r .answers
 
-pub move-3-6 : {a : Grown} {d : List ℕ} → Moves [] 16777216 a d → a ≡ grown.Refused Table
-unfolding moveOutcome moveUnder headerOf wellFormed
+pub move-3-6 : {a : Grown} {d : List ℕ} {t t′ : ℕ} → Moves [] 16777216 t a d t′ → a ≡ grown.Refused Table
+unfolding asked moveTallied moveOutcome moveUnder headerOf wellFormed
 move-3-6 m = m .answers
 
 -- sign: 3 before 7, 7 before 4
-module _ {a : Answer} {d m out : List ℕ} where
-  pub sign-3-7 : Signs [] (replicate 4097 0) [] a d m out → a ≡ answer.Refused Table
-  unfolding signOutcome signUnder headerOf wellFormed
+module _ {a : Answer} {d m out : List ℕ} {t t′ : ℕ} where
+  pub sign-3-7 : Signs [] (replicate 4097 0) [] t a d m out t′ → a ≡ answer.Refused Table
+  unfolding asked signTallied signOutcome signUnder headerOf wellFormed
   sign-3-7 r = r .answers
 
-  pub sign-7-4 : Signs (plain 0 7) (replicate 4097 0) [] a d m out → a ≡ answer.Refused TooLong
-  unfolding plain headerBytes signOutcome signUnder headerOf wellFormed headerIn fourIn
+  pub sign-7-4 : Signs (plain 0 7) (replicate 4097 0) [] t a d m out t′ → a ≡ answer.Refused TooLong
+  unfolding plain asked signTallied headerBytes signOutcome signUnder headerOf wellFormed headerIn fourIn
   sign-7-4 r = r .answers
 
 -- verify: 1 before 2, 2 before 4, 4 before 7, 7 before 6; and a step at T is refused, whatever its low bits say

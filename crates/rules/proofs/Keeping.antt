@@ -8,7 +8,7 @@ use Rattle.rules.specs.Part.{partRoot, partAt, partSignature}
 use Rattle.rules.specs.Table.{maxHeight, steps, signatureSize, header, headerBytes, tableAt}
 use Rattle.rules.specs.Calls.{MakeOutcome, KeyOutcome, keyOutcome, MoveOutcome, SignOutcome, signOutcome, VerifyOutcome, verifyOutcome}
 use Rattle.rules.specs.declared.Verdict.the-variants as verdict
-use Rattle.rules.specs.Runs.{lastAccepted, stepOf}
+use Rattle.rules.specs.Runs.{Asked, lastAccepted, stepOf}
 use Rattle.rules.specs.Knows.{knownTable, handedAt, Knowing}
 use Rattle.rules.specs.Demand3.{Bytes32, Message, AcceptsOwn, Keeps, Demand3}
 use Rattle.rules.proofs.Parts.{root-length}
@@ -36,7 +36,7 @@ module _ (s : List ℕ) (h1 h2 : ℕ) (b : Bytes32 s) (l1 : h1 ≤ maxHeight) (l
       (part-accepted own (h2 ∷ []) s h1 t m b u k))
 
   -- what a run of asked moves has left is as the demand says
-  kept : (asked : List ℕ) → let made = tableAt s h1 h2 0 in let last = lastAccepted made asked in Keeps h1 h2 s made (tableAt s h1 h2 (stepOf last)) last
+  kept : (asked : List Asked) → let made = tableAt s h1 h2 0 in let last = lastAccepted made asked in Keeps h1 h2 s made (tableAt s h1 h2 (stepOf last)) last
   kept asked =
       let made = tableAt s h1 h2 0 in
       let last = lastAccepted made asked in

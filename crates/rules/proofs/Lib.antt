@@ -7,6 +7,7 @@ pub mod Bounds
 pub mod Counts
 pub mod Small
 pub mod Positive
+pub mod Unanswered
 pub mod Excludes
 pub mod Verdicts
 pub mod Machine

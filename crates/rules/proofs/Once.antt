@@ -1,5 +1,5 @@
--- For each call: no second outcome fits its contract (the hash's is beside it); the outcome is one of those that document 01 lists for the call; and their
--- numbers.
+-- For each call: no second outcome fits its contract (the hash's is beside it), and the tally at entry fixes the one at exit; the outcome is one of those that
+-- document 01 and request 4 list for the call; and their numbers.
 use mathlib.Core.Path.{_≡_, refl, sym, _∙_}
 use mathlib.Core.List.{List, [], _∷_, map}
 use mathlib.Core.Bool.{Bool, true, false}
@@ -9,38 +9,41 @@ use lib.ListN.{length}
 use Rattle.fields.specs.Tests.{pick}
 use Rattle.blake2b.specs.Calls.{limit, hashOutcome}
 use Rattle.blake2b.specs.Calls as blake2b
-use Rattle.refusal.specs.declared.Refusal.the-variants.{Table}
+use Rattle.refusal.specs.declared.Refusal.the-variants.{Table, Unanswered}
+use Rattle.ed25519.specs.Tally.{Run, asked}
 use Rattle.rules.specs.Part.{partVerdict}
 use Rattle.rules.specs.Table.{steps, tableSize, signatureSize, headerIn, wellFormed, headerOf}
 use Rattle.rules.specs.Answers.{grownTold, answerNumber, verdictNumber}
-use Rattle.rules.specs.Calls.{tooHigh, Makes, MakeOutcome, makeOutcome}
+use Rattle.rules.specs.Calls.{tooHigh, Makes, MakeOutcome, notMade, makeOutcome, makeTallied}
 use Rattle.rules.specs.Calls.{Reads, KeyOutcome, keyUnder, keyOutcome}
-use Rattle.rules.specs.Calls.{Moves, MoveOutcome, moveUnder, moveOutcome}
-use Rattle.rules.specs.Calls.{Signs, SignOutcome, signUnder, signOutcome}
+use Rattle.rules.specs.Calls.{Moves, MoveOutcome, notMoved, moveUnder, moveOutcome, moveTallied}
+use Rattle.rules.specs.Calls.{Signs, SignOutcome, notSigned, signUnder, signOutcome, signTallied}
 use Rattle.rules.specs.Calls.{Verifies, verdictOf, verifyOutcome}
-use Rattle.rules.specs.Listed.{Among, here, there, makeListed, keyListed, moveListed, signListed, verifyListed, hashListed}
+use Rattle.rules.specs.Listed.{Among, here, there, beforeLast, makeListed, makeTalliedListed, keyListed, moveListed, moveTalliedListed}
+use Rattle.rules.specs.Listed.{signListed, signTalliedListed, verifyListed, hashListed}
 use Rattle.rules.specs.declared.Found.the-variants.{Good, Refused}
 use Rattle.rules.specs.declared.Grown.{Grown}
 use Rattle.rules.specs.declared.Answer.{Answer}
 use Rattle.rules.specs.declared.Verdict.{Verdict}
 
-pub make-once : (h1 h2 : ℕ) (s d : List ℕ) {a b : Grown} {s₁ s₂ d₁ d₂ : List ℕ} → Makes h1 h2 s d a s₁ d₁ → Makes h1 h2 s d b s₂ d₂
-    → (a ≡ b) × (s₁ ≡ s₂) × (d₁ ≡ d₂)
-make-once h1 h2 s d x y = (x .answers ∙ sym (y .answers), x .zeroes ∙ sym (y .zeroes), x .leaves ∙ sym (y .leaves))
+pub make-once : (h1 h2 : ℕ) (s d : List ℕ) (t : ℕ) {a b : Grown} {s₁ s₂ d₁ d₂ : List ℕ} {t₁ t₂ : ℕ} → Makes h1 h2 s d t a s₁ d₁ t₁ → Makes h1 h2 s d t b s₂ d₂ t₂
+    → (a ≡ b) × (s₁ ≡ s₂) × (d₁ ≡ d₂) × (t₁ ≡ t₂)
+make-once h1 h2 s d t x y = (x .answers ∙ sym (y .answers), x .zeroes ∙ sym (y .zeroes), x .leaves ∙ sym (y .leaves), x .tallies ∙ sym (y .tallies))
 
 pub key-once : (d out : List ℕ) {a b : Answer} {d₁ d₂ o₁ o₂ : List ℕ} → Reads d out a d₁ o₁ → Reads d out b d₂ o₂ → (a ≡ b) × (d₁ ≡ d₂) × (o₁ ≡ o₂)
 key-once d out x y = (x .answers ∙ sym (y .answers), x .keeps ∙ sym (y .keeps), x .leaves ∙ sym (y .leaves))
 
-pub move-once : (d : List ℕ) (b : ℕ) {a₁ a₂ : Grown} {d₁ d₂ : List ℕ} → Moves d b a₁ d₁ → Moves d b a₂ d₂ → (a₁ ≡ a₂) × (d₁ ≡ d₂)
-move-once d b x y = (x .answers ∙ sym (y .answers), x .leaves ∙ sym (y .leaves))
+pub move-once : (d : List ℕ) (b t : ℕ) {a₁ a₂ : Grown} {d₁ d₂ : List ℕ} {t₁ t₂ : ℕ} → Moves d b t a₁ d₁ t₁ → Moves d b t a₂ d₂ t₂ → (a₁ ≡ a₂) × (d₁ ≡ d₂) × (t₁ ≡ t₂)
+move-once d b t x y = (x .answers ∙ sym (y .answers), x .leaves ∙ sym (y .leaves), x .tallies ∙ sym (y .tallies))
 
-pub sign-once : (d m out : List ℕ) {a b : Answer} {d₁ d₂ m₁ m₂ o₁ o₂ : List ℕ} → Signs d m out a d₁ m₁ o₁ → Signs d m out b d₂ m₂ o₂
-    → (a ≡ b) × (d₁ ≡ d₂) × (m₁ ≡ m₂) × (o₁ ≡ o₂)
-sign-once d m out x y = (
+pub sign-once : (d m out : List ℕ) (t : ℕ) {a b : Answer} {d₁ d₂ m₁ m₂ o₁ o₂ : List ℕ} {t₁ t₂ : ℕ} → Signs d m out t a d₁ m₁ o₁ t₁ → Signs d m out t b d₂ m₂ o₂ t₂
+    → (a ≡ b) × (d₁ ≡ d₂) × (m₁ ≡ m₂) × (o₁ ≡ o₂) × (t₁ ≡ t₂)
+sign-once d m out t x y = (
   x .answers ∙ sym (y .answers),
   x .keeps-table ∙ sym (y .keeps-table),
   x .keeps-message ∙ sym (y .keeps-message),
   x .leaves ∙ sym (y .leaves),
+  x .tallies ∙ sym (y .tallies),
 )
 
 pub verify-once : (h1 h2 : ℕ) (k : List ℕ) (t : ℕ) (m x : List ℕ) {a b : Verdict} {k₁ k₂ m₁ m₂ x₁ x₂ : List ℕ} → Verifies h1 h2 k t m x a k₁ m₁ x₁
@@ -63,6 +66,27 @@ make-listed h1 h2 s d =
     either (tooHigh h1 h2) (here refl)
     (either (eqb (length s) 32) (either (eqb (length d) (tableSize h1 h2)) (there (there (there (here refl)))) (there (there (here refl)))) (there (here refl)))
 
+-- with one more among them
+still : {A : Type 0} (y : A) {x : A} (xs : List A) → Among x xs → Among x (beforeLast y xs)
+unfolding beforeLast
+still y (z ∷ []) (here e) = there (here e)
+still y (z ∷ w ∷ ws) (here e) = here e
+still y (z ∷ w ∷ ws) (there p) = there (still y (w ∷ ws) p)
+
+too : {A : Type 0} (y : A) (xs : List A) → Among y (beforeLast y xs)
+unfolding beforeLast
+too y [] = here refl
+too y (z ∷ []) = here refl
+too y (z ∷ w ∷ ws) = there (too y (w ∷ ws))
+
+pub with-silence : {A : Type 0} (y : A) {x : A} (xs : List A) (g : Bool) → Among x xs → Among (pick g x y) (beforeLast y xs)
+with-silence y xs g p = either g (still y xs p) (too y xs)
+
+pub make-tallied-listed : (h1 h2 : ℕ) (s d : List ℕ) (t : ℕ) → Among (makeTallied h1 h2 s d t) (makeTalliedListed h1 h2 s d)
+unfolding makeTallied
+make-tallied-listed h1 h2 s d t =
+    with-silence (notMade Unanswered s d) (makeListed h1 h2 s d) (asked (makeOutcome h1 h2 s d .calls) t .given) (make-listed h1 h2 s d)
+
 pub key-listed : (d out : List ℕ) → Among (keyOutcome d out) (keyListed d out)
 unfolding keyOutcome keyUnder headerOf
 key-listed d out = go (wellFormed d)
@@ -81,6 +105,11 @@ move-listed d b = go (wellFormed d)
         either (leb (steps (x .h1) (x .h2)) b) (there (here refl)) (either (leb b (x .step)) (there (there (here refl))) (there (there (there (here refl)))))
     go false = here refl
 
+pub move-tallied-listed : (d : List ℕ) (b t : ℕ) → Among (moveTallied d b t) (moveTalliedListed d b)
+unfolding moveTallied
+move-tallied-listed d b t =
+    with-silence (notMoved Unanswered d) (moveListed d b) (asked (moveOutcome d b .calls) t .given) (move-listed d b)
+
 pub sign-listed : (d m out : List ℕ) → Among (signOutcome d m out) (signListed d m out)
 unfolding signOutcome signUnder headerOf
 sign-listed d m out = go (wellFormed d)
@@ -91,6 +120,11 @@ sign-listed d m out = go (wellFormed d)
         either (ltb limit (length m)) (there (here refl))
         (either (eqb (length out) (signatureSize (x .h1) (x .h2))) (there (there (there (here refl)))) (there (there (here refl))))
     go false = here refl
+
+pub sign-tallied-listed : (d m out : List ℕ) (t : ℕ) → Among (signTallied d m out t) (signTalliedListed d m out)
+unfolding signTallied
+sign-tallied-listed d m out t =
+    with-silence (notSigned Unanswered d m out) (signListed d m out) (asked (signOutcome d m out .calls) t .given) (sign-listed d m out)
 
 pub verify-listed : (h1 h2 : ℕ) (k : List ℕ) (t : ℕ) (m x : List ℕ) → Among (verifyOutcome h1 h2 k t m x .answer) verifyListed
 unfolding verifyOutcome verdictOf
@@ -106,16 +140,19 @@ unfolding hashOutcome
 hash-listed m out = either (ltb limit (length m)) (here refl) (either (eqb (length out) 32) (there (there (here refl))) (there (here refl)))
 
 -- in document 01's numbers
-pub make-numbers : (h1 h2 : ℕ) (s d : List ℕ) → map (λ (o : MakeOutcome). grownTold (o .answer) .number) (makeListed h1 h2 s d) ≡ 1 ∷ 2 ∷ 4 ∷ 0 ∷ []
+pub make-numbers : (h1 h2 : ℕ) (s d : List ℕ) → map (λ (o : MakeOutcome). grownTold (o .answer) .number) (makeTalliedListed h1 h2 s d) ≡ 1 ∷ 2 ∷ 4 ∷ 9 ∷ 0 ∷ []
+unfolding beforeLast
 make-numbers h1 h2 s d = refl
 
 pub key-numbers : (d out : List ℕ) → map (λ (o : KeyOutcome). answerNumber (o .answer)) (keyListed d out) ≡ 3 ∷ 4 ∷ 0 ∷ []
 key-numbers d out = refl
 
-pub move-numbers : (d : List ℕ) (b : ℕ) → map (λ (o : MoveOutcome). grownTold (o .answer) .number) (moveListed d b) ≡ 3 ∷ 6 ∷ 5 ∷ 0 ∷ []
+pub move-numbers : (d : List ℕ) (b : ℕ) → map (λ (o : MoveOutcome). grownTold (o .answer) .number) (moveTalliedListed d b) ≡ 3 ∷ 6 ∷ 5 ∷ 9 ∷ 0 ∷ []
+unfolding beforeLast
 move-numbers d b = refl
 
-pub sign-numbers : (d m out : List ℕ) → map (λ (o : SignOutcome). answerNumber (o .answer)) (signListed d m out) ≡ 3 ∷ 7 ∷ 4 ∷ 0 ∷ []
+pub sign-numbers : (d m out : List ℕ) → map (λ (o : SignOutcome). answerNumber (o .answer)) (signTalliedListed d m out) ≡ 3 ∷ 7 ∷ 4 ∷ 9 ∷ 0 ∷ []
+unfolding beforeLast
 sign-numbers d m out = refl
 
 pub verify-numbers : map verdictNumber verifyListed ≡ 1 ∷ 2 ∷ 4 ∷ 7 ∷ 6 ∷ 100 ∷ 0 ∷ []

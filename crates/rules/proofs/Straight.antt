@@ -2,14 +2,18 @@
 use mathlib.Core.Path.{_≡_, refl, sym, ap, subst, _∙_}
 use mathlib.Core.Logic.{inl, inr}
 use mathlib.Core.List.{List, []}
+use mathlib.Core.Bool.{Bool, true, false}
 use Prim.Native.Nat.{ℕ, _+_, _≤_, _<_}
 use native.Mathlib.Omega.{arith}
 use lib.ListN.{length}
 use lib.Pow.{pow-pos}
+use Rattle.fields.specs.Tests.{pick}
+use Rattle.refusal.specs.declared.Refusal.the-variants.{Unanswered}
+use Rattle.ed25519.specs.Tally.{Run, asked}
 use Rattle.tree.proofs.Levels.{side}
 use Rattle.rules.specs.Table.{maxHeight, steps, tableAt}
-use Rattle.rules.specs.Calls.{MoveOutcome, moveOutcome}
-use Rattle.rules.specs.Runs.{Last, none, accepted, moveLeaves, moveTells, movedBy, lastAccepted, straightTo, stepOf}
+use Rattle.rules.specs.Calls.{MoveOutcome, notMoved, moveOutcome, moveTallied}
+use Rattle.rules.specs.Runs.{Last, none, Asked, accepted, moveLeaves, moveTells, movedBy, lastAccepted, straightTo, stepOf}
 use Rattle.rules.proofs.Machine.{follows}
 use Rattle.rules.proofs.Bridge.{late-at, not-later-at, moved-at}
 
@@ -42,6 +46,15 @@ module _ (s : List ℕ) (h1 h2 : ℕ) (ls : length s ≡ 32) (l1 : h1 ≤ maxHei
     ]
   ]
 
+  -- the same under a tally: where a module call is not answered, nothing has changed
+  tallied : (x : Last) (o : Asked) → Reached x → Fits x (o .to) (moveTallied (now x) (o .to) (o .tally))
+  unfolding moveTallied accepted
+  tallied x o f = go (asked (moveOutcome (now x) (o .to) .calls) (o .tally) .given)
+    where
+      go : (g : Bool) → Fits x (o .to) (pick g (moveOutcome (now x) (o .to)) (notMoved Unanswered (now x)))
+      go true = one x (o .to) f
+      go false = (f, refl)
+
   -- a list of them
-  pub run : (asked : List ℕ) → Reached (lastAccepted first asked) × (movedBy first asked ≡ now (lastAccepted first asked))
-  run asked = follows moveLeaves moveTells Reached now one asked none (record { before = pow-pos (h1 + h2); straightly = refl })
+  pub run : (asked : List Asked) → Reached (lastAccepted first asked) × (movedBy first asked ≡ now (lastAccepted first asked))
+  run asked = follows moveLeaves moveTells Reached now tallied asked none (record { before = pow-pos (h1 + h2); straightly = refl })

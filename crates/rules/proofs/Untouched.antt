@@ -1,32 +1,35 @@
--- A refusal leaves everything lent as it was: said of the outcomes themselves, so that it does not rest on how the listed refusals are written.
+-- A refusal leaves everything lent as it was, but for the tally that 9 may change: said of the outcomes themselves, so that it does not rest on how the listed
+-- refusals are written.
 use mathlib.Core.Path.{_≡_, refl, sym, subst}
 use mathlib.Core.List.{List, [], _∷_}
 use Prim.Native.Nat.{ℕ}
 use native.Mathlib.Omega.{arith}
 use Rattle.refusal.specs.declared.Refusal.{Refusal}
 use Rattle.tree.specs.Knows.{Each}
-use Rattle.rules.specs.Calls.{MakeOutcome, makeOutcome, KeyOutcome, keyOutcome, MoveOutcome, moveOutcome, SignOutcome, signOutcome, VerifyOutcome, verifyOutcome}
-use Rattle.rules.specs.Listed.{Among, here, there, makeListed, keyListed, moveListed, signListed}
+use Rattle.rules.specs.Calls.{MakeOutcome, makeTallied, KeyOutcome, keyOutcome, MoveOutcome, moveTallied, SignOutcome, signTallied, VerifyOutcome, verifyOutcome}
+use Rattle.rules.specs.Listed.{Among, here, there, beforeLast, makeTalliedListed, keyListed, moveTalliedListed, signTalliedListed}
 use Rattle.rules.specs.declared.Grown.the-variants as grown
 use Rattle.rules.specs.declared.Answer.the-variants as answer
-use Rattle.rules.proofs.Once.{make-listed, key-listed, move-listed, sign-listed}
+use Rattle.rules.proofs.Once.{make-tallied-listed, key-listed, move-tallied-listed, sign-tallied-listed}
 
 -- what holds of all that are listed holds of one of them
 pub of-listed : {A : Type 0} (P : A → Type 0) (xs : List A) {x : A} → Each P xs → Among x xs → P x
 of-listed P (y ∷ ys) p (here e) = subst P (sym e) (p .0)
 of-listed P (y ∷ ys) p (there q) = of-listed P ys (p .1) q
 
-grown-not : {n : ℕ} {why : Refusal} → grown.Done n ≡ grown.Refused why → ⊥
+pub grown-not : {n : ℕ} {why : Refusal} → grown.Done n ≡ grown.Refused why → ⊥
 grown-not e = let z : _≡_ {A = ℕ} 0 1 = cc in omega arith
 
 pub answer-not : {why : Refusal} → answer.Done ≡ answer.Refused why → ⊥
 answer-not e = let z : _≡_ {A = ℕ} 0 1 = cc in omega arith
 
-pub make-untouched : (h1 h2 : ℕ) (s d : List ℕ) (why : Refusal) → makeOutcome h1 h2 s d .answer ≡ grown.Refused why
-    → (makeOutcome h1 h2 s d .seed ≡ s) × (makeOutcome h1 h2 s d .table ≡ d)
-make-untouched h1 h2 s d why =
-    of-listed (λ (o : MakeOutcome). o .answer ≡ grown.Refused why → (o .seed ≡ s) × (o .table ≡ d)) (makeListed h1 h2 s d)
-    (λ e. (refl, refl), (λ e. (refl, refl), (λ e. (refl, refl), (λ e. absurd (grown-not e), tt)))) (make-listed h1 h2 s d)
+pub make-untouched : (h1 h2 : ℕ) (s d : List ℕ) (t : ℕ) (why : Refusal) → makeTallied h1 h2 s d t .answer ≡ grown.Refused why
+    → (makeTallied h1 h2 s d t .seed ≡ s) × (makeTallied h1 h2 s d t .table ≡ d)
+unfolding beforeLast
+make-untouched h1 h2 s d t why =
+    of-listed (λ (o : MakeOutcome). o .answer ≡ grown.Refused why → (o .seed ≡ s) × (o .table ≡ d)) (makeTalliedListed h1 h2 s d)
+    (λ e. (refl, refl), (λ e. (refl, refl), (λ e. (refl, refl), (λ e. (refl, refl), (λ e. absurd (grown-not e), tt)))))
+    (make-tallied-listed h1 h2 s d t)
 
 pub key-untouched : (d out : List ℕ) (why : Refusal) → keyOutcome d out .answer ≡ answer.Refused why
     → (keyOutcome d out .table ≡ d) × (keyOutcome d out .out ≡ out)
@@ -34,16 +37,19 @@ key-untouched d out why =
     of-listed (λ (o : KeyOutcome). o .answer ≡ answer.Refused why → (o .table ≡ d) × (o .out ≡ out)) (keyListed d out)
     (λ e. (refl, refl), (λ e. (refl, refl), (λ e. absurd (answer-not e), tt))) (key-listed d out)
 
-pub move-untouched : (d : List ℕ) (b : ℕ) (why : Refusal) → moveOutcome d b .answer ≡ grown.Refused why → moveOutcome d b .table ≡ d
-move-untouched d b why =
-    of-listed (λ (o : MoveOutcome). o .answer ≡ grown.Refused why → o .table ≡ d) (moveListed d b)
-    (λ e. refl, (λ e. refl, (λ e. refl, (λ e. absurd (grown-not e), tt)))) (move-listed d b)
+pub move-untouched : (d : List ℕ) (b t : ℕ) (why : Refusal) → moveTallied d b t .answer ≡ grown.Refused why → moveTallied d b t .table ≡ d
+unfolding beforeLast
+move-untouched d b t why =
+    of-listed (λ (o : MoveOutcome). o .answer ≡ grown.Refused why → o .table ≡ d) (moveTalliedListed d b)
+    (λ e. refl, (λ e. refl, (λ e. refl, (λ e. refl, (λ e. absurd (grown-not e), tt))))) (move-tallied-listed d b t)
 
-pub sign-untouched : (d m out : List ℕ) (why : Refusal) → signOutcome d m out .answer ≡ answer.Refused why
-    → (signOutcome d m out .table ≡ d) × (signOutcome d m out .message ≡ m) × (signOutcome d m out .out ≡ out)
-sign-untouched d m out why =
-    of-listed (λ (o : SignOutcome). o .answer ≡ answer.Refused why → (o .table ≡ d) × (o .message ≡ m) × (o .out ≡ out)) (signListed d m out)
-    (λ e. (refl, refl, refl), (λ e. (refl, refl, refl), (λ e. (refl, refl, refl), (λ e. absurd (answer-not e), tt)))) (sign-listed d m out)
+pub sign-untouched : (d m out : List ℕ) (t : ℕ) (why : Refusal) → signTallied d m out t .answer ≡ answer.Refused why
+    → (signTallied d m out t .table ≡ d) × (signTallied d m out t .message ≡ m) × (signTallied d m out t .out ≡ out)
+unfolding beforeLast
+sign-untouched d m out t why =
+    of-listed (λ (o : SignOutcome). o .answer ≡ answer.Refused why → (o .table ≡ d) × (o .message ≡ m) × (o .out ≡ out)) (signTalliedListed d m out)
+    (λ e. (refl, refl, refl), (λ e. (refl, refl, refl), (λ e. (refl, refl, refl), (λ e. (refl, refl, refl), (λ e. absurd (answer-not e), tt)))))
+    (sign-tallied-listed d m out t)
 
 -- and verify in every case
 pub verify-untouched : (h1 h2 : ℕ) (k : List ℕ) (t : ℕ) (m x : List ℕ)

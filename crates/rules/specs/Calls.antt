@@ -1,5 +1,6 @@
 -- The five calls, each by one definition from its inputs to its whole outcome: the answer and the end value of every slice lent, on all inputs. The order of
--- refusals is that of document 01, "Numbers a caller can get". Each contract says that answer and end values are the outcome's.
+-- refusals is that of document 01, "Numbers a caller can get". Each contract says that answer and end values are the outcome's. Request 4: of make, move and
+-- sign the same under a tally, with 9 after all checks.
 use mathlib.Core.Path.{_≡_}
 use mathlib.Core.List.{List, [], _∷_, _++_}
 use mathlib.Core.Bool.{Bool, _||_}
@@ -9,9 +10,10 @@ use lib.ListN.{length}
 use Rattle.fields.specs.Tests.{pick}
 use Rattle.blake2b.specs.Calls.{limit}
 use Rattle.refusal.specs.declared.Refusal.{Refusal}
-use Rattle.refusal.specs.declared.Refusal.the-variants.{Height, SeedOrKey, Length, NotLater, PastEnd, TooLong}
+use Rattle.refusal.specs.declared.Refusal.the-variants.{Height, SeedOrKey, Length, NotLater, PastEnd, TooLong, Unanswered}
+use Rattle.ed25519.specs.Tally.{Run, asked}
 use Rattle.tree.specs.Tree.{zeros, rootIn}
-use Rattle.rules.specs.Part.{partAt, movedPart, countNewPart, countPart, partSignature, partVerdict}
+use Rattle.rules.specs.Part.{partAt, movedPart, countNewPart, countPart, callsNewPart, callsPart, partSignature, partVerdict}
 use Rattle.rules.specs.Table.{maxHeight, steps, tableSize, signatureSize, header, atStep, headerBytes, bodyIn, headerOf}
 use Rattle.rules.specs.declared.Header.{Header}
 use Rattle.rules.specs.declared.Found.{Found}
@@ -26,28 +28,30 @@ use Rattle.rules.specs.declared.Verdict.the-variants as verdict
 abbrev pub tooHigh : ℕ → ℕ → Bool
 tooHigh h1 h2 = ltb maxHeight h1 || ltb maxHeight h2
 
--- The work of make and of move after their checks, over the body alone: the count, and the body left.
+-- The work of make and of move after their checks, over the body alone: the module calls it makes, the count, and the body left where all were answered.
 pub record Work : Type 0 where
+  pub calls : ℕ
   pub count : ℕ
   pub body : List ℕ
 
 unfoldable pub makeWork : ℕ → ℕ → List ℕ → Work
-makeWork h1 h2 s = record { count = countNewPart h1 (h2 ∷ []) 0; body = partAt s h1 (h2 ∷ []) 0 }
+makeWork h1 h2 s = record { calls = callsNewPart h1 (h2 ∷ []); count = countNewPart h1 (h2 ∷ []) 0; body = partAt s h1 (h2 ∷ []) 0 }
 
 unfoldable pub moveWork : Header → List ℕ → ℕ → Work
-moveWork x d b = record { count = countPart (x .h1) (x .h2 ∷ []) (x .step) b; body = movedPart d (x .h1) (x .h2 ∷ []) (x .step) b }
+moveWork x d b = record { calls = callsPart (x .h1) (x .h2 ∷ []) (x .step) b; count = countPart (x .h1) (x .h2 ∷ []) (x .step) b; body = movedPart d (x .h1) (x .h2 ∷ []) (x .step) b }
 
--- make: 1, 2, 4
+-- make: 1, 2, 4, 9
 pub record MakeOutcome : Type 0 where
+  pub calls : ℕ
   pub answer : Grown
   pub seed : List ℕ
   pub table : List ℕ
 
 abbrev pub notMade : Refusal → List ℕ → List ℕ → MakeOutcome
-notMade why s d = record { answer = grown.Refused why; seed = s; table = d }
+notMade why s d = record { calls = 0; answer = grown.Refused why; seed = s; table = d }
 
 abbrev pub made : ℕ → ℕ → Work → MakeOutcome
-made h1 h2 w = record { answer = grown.Done (w .count); seed = zeros; table = headerBytes (header h1 h2 0) ++ w .body }
+made h1 h2 w = record { calls = w .calls; answer = grown.Done (w .count); seed = zeros; table = headerBytes (header h1 h2 0) ++ w .body }
 
 unfoldable pub makeOutcome : ℕ → ℕ → List ℕ → List ℕ → MakeOutcome
 makeOutcome h1 h2 s d =
@@ -56,10 +60,15 @@ makeOutcome h1 h2 s d =
     (pick (eqb (length d) (tableSize h1 h2)) (made h1 h2 (makeWork h1 h2 s)) (notMade Length s d))
     (notMade SeedOrKey s d))
 
-pub record Makes (h1 h2 : ℕ) (s d : List ℕ) (a : Grown) (s′ d′ : List ℕ) : Type 0 where
-  pub answers : a ≡ makeOutcome h1 h2 s d .answer
-  pub zeroes : s′ ≡ makeOutcome h1 h2 s d .seed
-  pub leaves : d′ ≡ makeOutcome h1 h2 s d .table
+-- the same under a tally: that outcome where every module call it makes is answered, else number 9, and nothing is changed
+unfoldable pub makeTallied : ℕ → ℕ → List ℕ → List ℕ → ℕ → MakeOutcome
+makeTallied h1 h2 s d t = pick (asked (makeOutcome h1 h2 s d .calls) t .given) (makeOutcome h1 h2 s d) (notMade Unanswered s d)
+
+pub record Makes (h1 h2 : ℕ) (s d : List ℕ) (t : ℕ) (a : Grown) (s′ d′ : List ℕ) (t′ : ℕ) : Type 0 where
+  pub answers : a ≡ makeTallied h1 h2 s d t .answer
+  pub zeroes : s′ ≡ makeTallied h1 h2 s d t .seed
+  pub leaves : d′ ≡ makeTallied h1 h2 s d t .table
+  pub tallies : t′ ≡ asked (makeOutcome h1 h2 s d .calls) t .tally
 
 -- read key: 3, 4
 pub record KeyOutcome : Type 0 where
@@ -86,16 +95,17 @@ pub record Reads (d out : List ℕ) (a : Answer) (d′ out′ : List ℕ) : Type
   pub keeps : d′ ≡ keyOutcome d out .table
   pub leaves : out′ ≡ keyOutcome d out .out
 
--- move: 3, 6, 5
+-- move: 3, 6, 5, 9
 pub record MoveOutcome : Type 0 where
+  pub calls : ℕ
   pub answer : Grown
   pub table : List ℕ
 
 abbrev pub notMoved : Refusal → List ℕ → MoveOutcome
-notMoved why d = record { answer = grown.Refused why; table = d }
+notMoved why d = record { calls = 0; answer = grown.Refused why; table = d }
 
 abbrev pub moved : Header → ℕ → Work → MoveOutcome
-moved x b w = record { answer = grown.Done (w .count); table = headerBytes (atStep x b) ++ w .body }
+moved x b w = record { calls = w .calls; answer = grown.Done (w .count); table = headerBytes (atStep x b) ++ w .body }
 
 unfoldable pub moveUnder : Found → List ℕ → ℕ → MoveOutcome
 moveUnder (found.Refused why) d b = notMoved why d
@@ -106,22 +116,28 @@ moveUnder (found.Good x) d b =
 unfoldable pub moveOutcome : List ℕ → ℕ → MoveOutcome
 moveOutcome d b = moveUnder (headerOf d) d b
 
-pub record Moves (d : List ℕ) (b : ℕ) (a : Grown) (d′ : List ℕ) : Type 0 where
-  pub answers : a ≡ moveOutcome d b .answer
-  pub leaves : d′ ≡ moveOutcome d b .table
+-- the same under a tally
+unfoldable pub moveTallied : List ℕ → ℕ → ℕ → MoveOutcome
+moveTallied d b t = pick (asked (moveOutcome d b .calls) t .given) (moveOutcome d b) (notMoved Unanswered d)
 
--- sign: 3, 7, 4
+pub record Moves (d : List ℕ) (b t : ℕ) (a : Grown) (d′ : List ℕ) (t′ : ℕ) : Type 0 where
+  pub answers : a ≡ moveTallied d b t .answer
+  pub leaves : d′ ≡ moveTallied d b t .table
+  pub tallies : t′ ≡ asked (moveOutcome d b .calls) t .tally
+
+-- sign: 3, 7, 4, 9
 pub record SignOutcome : Type 0 where
+  pub calls : ℕ
   pub answer : Answer
   pub table : List ℕ
   pub message : List ℕ
   pub out : List ℕ
 
 abbrev pub notSigned : Refusal → List ℕ → List ℕ → List ℕ → SignOutcome
-notSigned why d m out = record { answer = answer.Refused why; table = d; message = m; out = out }
+notSigned why d m out = record { calls = 0; answer = answer.Refused why; table = d; message = m; out = out }
 
 abbrev pub signed : Header → List ℕ → List ℕ → SignOutcome
-signed x d m = record { answer = answer.Done; table = d; message = m; out = partSignature (bodyIn d) (x .h1) (x .h2 ∷ []) (x .step) m }
+signed x d m = record { calls = 1; answer = answer.Done; table = d; message = m; out = partSignature (bodyIn d) (x .h1) (x .h2 ∷ []) (x .step) m }
 
 unfoldable pub signUnder : Found → List ℕ → List ℕ → List ℕ → SignOutcome
 signUnder (found.Refused why) d m out = notSigned why d m out
@@ -132,11 +148,16 @@ signUnder (found.Good x) d m out =
 unfoldable pub signOutcome : List ℕ → List ℕ → List ℕ → SignOutcome
 signOutcome d m out = signUnder (headerOf d) d m out
 
-pub record Signs (d m out : List ℕ) (a : Answer) (d′ m′ out′ : List ℕ) : Type 0 where
-  pub answers : a ≡ signOutcome d m out .answer
-  pub keeps-table : d′ ≡ signOutcome d m out .table
-  pub keeps-message : m′ ≡ signOutcome d m out .message
-  pub leaves : out′ ≡ signOutcome d m out .out
+-- the same under a tally
+unfoldable pub signTallied : List ℕ → List ℕ → List ℕ → ℕ → SignOutcome
+signTallied d m out t = pick (asked (signOutcome d m out .calls) t .given) (signOutcome d m out) (notSigned Unanswered d m out)
+
+pub record Signs (d m out : List ℕ) (t : ℕ) (a : Answer) (d′ m′ out′ : List ℕ) (t′ : ℕ) : Type 0 where
+  pub answers : a ≡ signTallied d m out t .answer
+  pub keeps-table : d′ ≡ signTallied d m out t .table
+  pub keeps-message : m′ ≡ signTallied d m out t .message
+  pub leaves : out′ ≡ signTallied d m out t .out
+  pub tallies : t′ ≡ asked (signOutcome d m out .calls) t .tally
 
 -- verify: 1, 2, 4, 7, 6, 100
 pub record VerifyOutcome : Type 0 where

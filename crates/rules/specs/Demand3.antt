@@ -14,7 +14,7 @@ use Rattle.rules.specs.Calls.{moveOutcome, SignOutcome, signOutcome, Ver
 use Rattle.rules.specs.declared.Grown.the-variants as grown
 use Rattle.rules.specs.declared.Answer.the-variants as answer
 use Rattle.rules.specs.declared.Verdict.the-variants as verdict
-use Rattle.rules.specs.Runs.{Last, movedBy, lastAccepted, straightTo, stepOf}
+use Rattle.rules.specs.Runs.{Last, Asked, movedBy, lastAccepted, straightTo, stepOf}
 use Rattle.rules.specs.Knows.{knownTable, handedAt, Knowing}
 
 abbrev pub Bytes32 : List ℕ → Type 0
@@ -47,5 +47,5 @@ pub record Keeps (h1 h2 : ℕ) (s made now : List ℕ) (last : Last) : Type 0 wh
 -- DEMAND 3: for heights up to 12, a seed of 32 bytes, a table lent of the right length, and every list of asked moves
 abbrev pub Demand3 : Type 0
 Demand3 =
-    (h1 h2 : ℕ) (s d asked : List ℕ) → h1 ≤ maxHeight → h2 ≤ maxHeight → Bytes32 s → length d ≡ tableSize h1 h2
+    (h1 h2 : ℕ) (s d : List ℕ) (asked : List Asked) → h1 ≤ maxHeight → h2 ≤ maxHeight → Bytes32 s → length d ≡ tableSize h1 h2
     → Keeps h1 h2 s (makeOutcome h1 h2 s d .table) (movedBy (makeOutcome h1 h2 s d .table) asked) (lastAccepted (makeOutcome h1 h2 s d .table) asked)

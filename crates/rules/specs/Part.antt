@@ -4,12 +4,12 @@ use mathlib.Core.List.{List, [], _∷_, _++_}
 use mathlib.Core.Bool.{Bool, _&&_}
 use Prim.Native.Nat.{ℕ, zero, suc, _+_, _-_, _/_, _%_, _^_}
 use lib.Dec.{eqb}
-use lib.ListN.{take, drop}
+use lib.ListN.{length, take, drop}
 use Rattle.fields.specs.Fields.{part}
 use Rattle.fields.specs.Tests.{pick}
 use Rattle.tree.specs.Seeds.{left, right}
 use Rattle.tree.specs.Tree.{subtreeHash, treeSize, treeAt, rootIn, withoutSecret}
-use Rattle.tree.specs.Move.{movedTree, countMove, countNewAt}
+use Rattle.tree.specs.Move.{movedTree, countMove, countNewAt, callsMove}
 use Rattle.tree.specs.Sum.{sumSize, sumSignature, sumVerdict}
 
 -- a part of heights h, hs has 2^total steps
@@ -122,3 +122,21 @@ sumsVerdict root h (g ∷ hs) t m sums roots =
 -- the verdict on the signature x over m at step t, under a root
 unfoldable pub partVerdict : List ℕ → ℕ → List ℕ → ℕ → List ℕ → List ℕ → Bool
 partVerdict root h hs t m x = sumsVerdict root h hs t m x (drop (sumsSize h hs) x)
+
+-- Request 4: how many module calls a new part and a move of a part make: one for each leaf grown, in one pass over each tree, and one for each root signed
+unfoldable pub callsNewPart : ℕ → List ℕ → ℕ
+callsNewPart h [] = 2 ^ h
+callsNewPart h (g ∷ hs) = 2 ^ h + (callsNewPart g hs + 1)
+
+unfoldable pub callsPart : ℕ → List ℕ → ℕ → ℕ → ℕ
+callsPart h [] a b = callsMove h a b
+callsPart h (g ∷ hs) a b =
+    let n = total g hs in
+    pick (eqb (outer n a) (outer n b)) (callsPart g hs (inner n a) (inner n b)) (callsMove h (outer n a) (outer n b) + (callsNewPart g hs + 1))
+
+-- how many roots that move has signed: one at each tree above the new ones
+unfoldable pub rootsPart : ℕ → List ℕ → ℕ → ℕ → ℕ
+rootsPart h [] a b = 0
+rootsPart h (g ∷ hs) a b =
+    let n = total g hs in
+    pick (eqb (outer n a) (outer n b)) (rootsPart g hs (inner n a) (inner n b)) (suc (length hs))

@@ -1,7 +1,7 @@
 -- A list of calls of any kind, each on the bytes that the one before it left; and a list of asked moves.
 use mathlib.Core.List.{List, [], _∷_}
 use Prim.Native.Nat.{ℕ}
-use Rattle.rules.specs.Calls.{MoveOutcome, moveOutcome}
+use Rattle.rules.specs.Calls.{MoveOutcome, moveOutcome, moveTallied}
 use Rattle.rules.specs.declared.Grown.{Grown}
 use Rattle.rules.specs.declared.Grown.the-variants as grown
 
@@ -26,20 +26,25 @@ unfoldable pub accepted : Grown → ℕ → Last → Last
 accepted (grown.Done n) b x = at b
 accepted (grown.Refused why) b x = x
 
-abbrev pub moveLeaves : List ℕ → ℕ → List ℕ
-moveLeaves d b = moveOutcome d b .table
+-- a move asked for: the step, and the tally lent to the call (request 4)
+pub record Asked : Type 0 where
+  pub to : ℕ
+  pub tally : ℕ
 
-abbrev pub moveTells : Last → List ℕ → ℕ → Last
-moveTells x d b = accepted (moveOutcome d b .answer) b x
+abbrev pub moveLeaves : List ℕ → Asked → List ℕ
+moveLeaves d o = moveTallied d (o .to) (o .tally) .table
+
+abbrev pub moveTells : Last → List ℕ → Asked → Last
+moveTells x d o = accepted (moveTallied d (o .to) (o .tally) .answer) (o .to) x
 
 -- what a table becomes, and the last accepted step
-abbrev pub movedBy : List ℕ → List ℕ → List ℕ
+abbrev pub movedBy : List ℕ → List Asked → List ℕ
 movedBy d asked = after moveLeaves d asked
 
-abbrev pub lastAccepted : List ℕ → List ℕ → Last
+abbrev pub lastAccepted : List ℕ → List Asked → Last
 lastAccepted d asked = ends moveLeaves moveTells none d asked
 
--- moved once, straight there, or not moved if none was accepted
+-- moved once, with every answer given, straight there, or not moved if none was accepted
 abbrev pub straightTo : List ℕ → Last → List ℕ
 straightTo d none = d
 straightTo d (at b) = moveOutcome d b .table

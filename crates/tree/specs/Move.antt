@@ -31,3 +31,8 @@ countNew h = 2 ^ h
 
 unfoldable pub countNewAt : ℕ → ℕ → ℕ
 countNewAt h t = countNew h + countMove h 0 t
+
+-- Request 4: how many module calls that move makes: one for each leaf of the right half entered, whatever its step there
+unfoldable pub callsMove : ℕ → ℕ → ℕ → ℕ
+callsMove zero a b = 0
+callsMove (suc h) a b = pick (goesLeft h b) (callsMove h a b) (pick (goesLeft h a) (2 ^ h) (callsMove h (inRight h a) (inRight h b)))

@@ -1,14 +1,18 @@
-// Trees under the stand-in, from the seed 1, 2, .., 32: each step of heights 0 to 4, all moves of each height, and one tree of height 12.
+// Trees under the stand-in, from the seed 1, 2, .., 32: each step of heights 0 to 4, all moves of each height, and one tree of height 12; then every place at
+// which a module call of height 2 can fail.
 ghost use mathlib.Core.Path.{_≡_};
 ghost use Prim.Native.Nat.{_<_, _≤_, _^_};
 ghost use lib.ListN.{length};
 ghost use Rattle.tree.specs.Tree.{treeSize};
 ghost use Rattle.tree.specs.Sum.{sumSize};
+use cases::ANSWERED;
+use cases::SILENT;
 use cases::digest;
 use cases::end_line;
 use cases::show_field;
 use cases::show_number;
 use libc::STDOUT_FILENO;
+use tree::Grew;
 
 const SEED: [u8; 32] = [
     1,
@@ -50,6 +54,37 @@ fn room() -> [u8; 1216]
     ensures { λ r. ⌜ 1216 ≡ length r ⌝ }
 {
     [0; 1216]
+}
+
+fn grow(h: usize, t: usize, bytes: &mut [u8])
+    requires { ⌜ (h ≤ 12) × (t < 2 ^ h) × (length (now bytes) ≡ treeSize h) ⌝ }
+    ensures { λ _. ⌜ length (now (bytes .exit)) ≡ treeSize h ⌝ }
+{
+    let mut tally = ANSWERED;
+    tree::grow(SEED, h, t, bytes, &mut tally);
+}
+
+fn count_of(grew: Grew) -> u64 {
+    match grew {
+        Grew::Count(count) => count as u64,
+        Grew::Unanswered => 0,
+    }
+}
+
+fn move_tree(bytes: &mut [u8], h: usize, a: usize, b: usize) -> u64
+    requires { ⌜ (h ≤ 12) × (a < b) × (b < 2 ^ h) × (length (now bytes) ≡ treeSize h) ⌝ }
+    ensures { λ _. ⌜ length (now (bytes .exit)) ≡ treeSize h ⌝ }
+{
+    let mut tally = ANSWERED;
+    count_of(tree::move_tree(bytes, h, a, b, &mut tally))
+}
+
+fn sum_sign(bytes: &[u8], h: usize, t: usize, message: &[u8], signature: &mut [u8])
+    requires { ⌜ (h ≤ 12) × (t < 2 ^ h) × (treeSize h ≤ length (now bytes)) × (length (now signature) ≡ sumSize h) ⌝ }
+    ensures { λ _. ⌜ (now (bytes .exit) ≡ now (bytes .entry)) × (length (now (signature .exit)) ≡ sumSize h) ⌝ }
+{
+    let mut tally = ANSWERED;
+    tree::sum_sign(bytes, h, t, message, signature, &mut tally);
 }
 
 fn show_verdict(accepted: bool) {
@@ -111,9 +146,9 @@ fn step(h: usize, t: usize, bytes: &mut [u8], signature: &mut [u8])
     requires { ⌜ (h ≤ 12) × (t < 2 ^ h) × (length (now bytes) ≡ treeSize h) × (length (now signature) ≡ sumSize h) ⌝ }
     ensures { λ _. ⌜ (length (now (bytes .exit)) ≡ treeSize h) × (length (now (signature .exit)) ≡ sumSize h) ⌝ }
 {
-    tree::grow(SEED, h, t, bytes);
+    grow(h, t, bytes);
     let root = tree::root(bytes, h);
-    tree::sum_sign(bytes, h, t, b"step", signature);
+    sum_sign(bytes, h, t, b"step", signature);
     show_step(h, t, root, bytes, signature);
     verdicts(root, h, t, signature);
     flipped_verdicts(root, h, t, signature);
@@ -143,12 +178,12 @@ fn with_move(before: Folded, h: usize, a: usize, b: usize, bytes: &mut [u8]) -> 
     requires { ⌜ (h ≤ 12) × (a < b) × (b < 2 ^ h) × (length (now bytes) ≡ treeSize h) ⌝ }
     ensures { λ _. ⌜ length (now (bytes .exit)) ≡ treeSize h ⌝ }
 {
-    tree::grow(SEED, h, a, bytes);
-    let count = tree::move_tree(bytes, h, a, b);
+    grow(h, a, bytes);
+    let count = move_tree(bytes, h, a, b);
     let chain = before.chain;
     Folded {
         chain: blake2b::hash_32_32(chain, digest(bytes)),
-        count: std::num::wrapping_add_u64(before.count, count as u64),
+        count: std::num::wrapping_add_u64(before.count, count),
     }
 }
 
@@ -223,14 +258,111 @@ fn heights(bytes: &mut [u8], signature: &mut [u8])
 fn tallest(bytes: &mut [u8])
     requires { ⌜ length (now bytes) ≡ 1216 ⌝ }
 {
-    tree::grow(SEED, 12, 0, bytes);
-    let count = tree::move_tree(bytes, 12, 0, 2049);
+    grow(12, 0, bytes);
+    let count = move_tree(bytes, 12, 0, 2049);
     io::write_all(STDOUT_FILENO, b"tallest");
     show_number(2049);
     show_field(digest(bytes));
     show_field(tree::root(bytes, 12));
-    show_number(count as u64);
+    show_number(count);
     end_line();
+}
+
+// The rest of a line: the tally at entry, whether all was answered, the tally left, and the digest of what was lent.
+fn show_try(first: u64, given: bool, tally: u64, bytes: &[u8])
+    ensures { λ _. ⌜ now (bytes .exit) ≡ now (bytes .entry) ⌝ }
+{
+    show_number(first);
+    show_number(given as u64);
+    show_number(tally);
+    show_field(digest(bytes));
+    end_line();
+}
+
+// The line of a tree grown at step 1 from this tally on, over the one at step 3.
+fn grow_from(first: u64, bytes: &mut [u8])
+    requires { ⌜ length (now bytes) ≡ treeSize 2 ⌝ }
+    ensures { λ _. ⌜ length (now (bytes .exit)) ≡ treeSize 2 ⌝ }
+{
+    grow(2, 3, bytes);
+    io::write_all(STDOUT_FILENO, b"grow");
+    let mut tally = first;
+    let grown = tree::grow(SEED, 2, 1, bytes, &mut tally);
+    show_try(first, grown.given, tally, bytes);
+}
+
+fn given_of(grew: Grew) -> bool {
+    match grew {
+        Grew::Count(_) => true,
+        Grew::Unanswered => false,
+    }
+}
+
+// The line of a move from step 0 to step 3, from this tally on.
+fn move_from(first: u64, bytes: &mut [u8])
+    requires { ⌜ length (now bytes) ≡ treeSize 2 ⌝ }
+    ensures { λ _. ⌜ length (now (bytes .exit)) ≡ treeSize 2 ⌝ }
+{
+    grow(2, 0, bytes);
+    io::write_all(STDOUT_FILENO, b"move");
+    let mut tally = first;
+    let given = given_of(tree::move_tree(bytes, 2, 0, 3, &mut tally));
+    show_try(first, given, tally, bytes);
+}
+
+// The line of a signature at step 0, from this tally on, over that of another message.
+fn sign_from(first: u64, bytes: &mut [u8], signature: &mut [u8])
+    requires { ⌜ (length (now bytes) ≡ treeSize 2) × (length (now signature) ≡ sumSize 2) ⌝ }
+    ensures { λ _. ⌜ (length (now (bytes .exit)) ≡ treeSize 2) × (length (now (signature .exit)) ≡ sumSize 2) ⌝ }
+{
+    grow(2, 0, bytes);
+    sum_sign(bytes, 2, 0, b"stop", signature);
+    io::write_all(STDOUT_FILENO, b"sign");
+    let mut tally = first;
+    let given = tree::sum_sign(bytes, 2, 0, b"step", signature, &mut tally);
+    show_try(first, given, tally, signature);
+}
+
+// Each of the calls of growing fails in its turn, and at last none; then those of the move, and of the signature.
+fn failing_grows(bytes: &mut [u8])
+    requires { ⌜ length (now bytes) ≡ treeSize 2 ⌝ }
+    ensures { λ _. ⌜ length (now (bytes .exit)) ≡ treeSize 2 ⌝ }
+{
+    grow_from(SILENT, bytes);
+    grow_from(SILENT - 1, bytes);
+    grow_from(SILENT - 2, bytes);
+    grow_from(SILENT - 3, bytes);
+    grow_from(SILENT - 4, bytes);
+}
+
+fn failing_moves(bytes: &mut [u8])
+    requires { ⌜ length (now bytes) ≡ treeSize 2 ⌝ }
+    ensures { λ _. ⌜ length (now (bytes .exit)) ≡ treeSize 2 ⌝ }
+{
+    move_from(SILENT, bytes);
+    move_from(SILENT - 1, bytes);
+    move_from(SILENT - 2, bytes);
+}
+
+fn failing_signs(bytes: &mut [u8], signature: &mut [u8])
+    requires { ⌜ (length (now bytes) ≡ treeSize 2) × (length (now signature) ≡ sumSize 2) ⌝ }
+{
+    sign_from(SILENT, bytes, signature);
+    sign_from(SILENT - 1, bytes, signature);
+}
+
+fn unanswered(bytes: &mut [u8], signature: &mut [u8])
+    requires { ⌜ (length (now bytes) ≡ treeSize 2) × (length (now signature) ≡ sumSize 2) ⌝ }
+{
+    failing_grows(bytes);
+    failing_moves(bytes);
+    failing_signs(bytes, signature);
+}
+
+fn all_unanswered() {
+    let mut bytes = room();
+    let mut signature = room();
+    unanswered(&mut bytes[0..256], &mut signature[0..160]);
 }
 
 fn main() {
@@ -238,4 +370,5 @@ fn main() {
     let mut signature = room();
     heights(&mut bytes, &mut signature);
     tallest(&mut bytes);
+    all_unanswered();
 }

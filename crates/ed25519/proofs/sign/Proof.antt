@@ -5,7 +5,9 @@ use Rattle.ed25519.proofs.sign.Statement.{statement}
 use Rattle.ed25519.proofs.sign.Tie as tie
 
 returns : tie.Need-returns
-returns c = (c .sign .ensures .0 ∙ open-signature _ _, refl)
+returns c =
+    let n = c .before .heard .ensures in
+    ((n .0, λ _. c .sign .ensures .0 ∙ open-signature _ _), (n .1, refl))
 
 pub sign-spec : {M : Type 1} → statement M
-sign-spec = tie.close (tie.spec (λ c κs. search needs) returns)
+sign-spec = tie.close (tie.spec (λ c κs. search needs) (λ c κs. search needs) returns)

@@ -3,6 +3,7 @@ use borrow.Author.Needs.{needs}
 use Prim.Native.Nat.{ℕ, _<_}
 use native.Mathlib.Omega.{arith}
 use Rattle.rules.proofs.Small.{make-small}
+use Rattle.rules.proofs.Unanswered.{make-tallied-done}
 use Rattle.edge.proofs.Words.{done-word, refused-word}
 use Rattle.edge.proofs.kes_make.Statement.{statement}
 use Rattle.edge.proofs.kes_make.Tie as tie
@@ -11,8 +12,9 @@ use Rattle.edge.proofs.kes_make.Tie as tie
 fits : (c : tie.After-count) → c .count .given .0 .0 < 0x1_0000_0000
 fits c =
     let k = c .before .before .before .before .before .before in
-    let a = k .before .before .before .before .before .args in
-    make-small (a .h1) (a .h2) (a .seed .now) (a .table .now) (sym (k .make .ensures .answers) ∙ c .count .given .1)
+    let a = k .before .before .before .before .before .before .args in
+    let e = make-tallied-done (a .h1) (a .h2) (a .seed .now) (a .table .now) (a .tally .now) (sym (k .make .ensures .answers) ∙ c .count .given .1) in
+    make-small (a .h1) (a .h2) (a .seed .now) (a .table .now) e
 
 mul-result : tie.Need-mul-result
 mul-result c = let l = fits (c .before) in omega arith
@@ -20,12 +22,12 @@ mul-result c = let l = fits (c .before) in omega arith
 returns : tie.Need-returns
 returns c =
     let h = c .before .before .before .before .before .before .before .make .ensures in
-    record { answers = done-word _ (sym (c .before .count .given .1) ∙ h .answers); zeroes = h .zeroes; leaves = h .leaves }
+    record { answers = done-word _ (sym (c .before .count .given .1) ∙ h .answers); zeroes = h .zeroes; leaves = h .leaves; tallies = h .tallies }
 
 returns-2 : tie.Need-returns-2
 returns-2 c =
     let h = c .before .before .before .before .before .before .before .before .make .ensures in
-    record { answers = refused-word _ (c .number .ensures) (sym (c .before .before .why .given .1) ∙ h .answers); zeroes = h .zeroes; leaves = h .leaves }
+    record { answers = refused-word _ (c .number .ensures) (sym (c .before .before .why .given .1) ∙ h .answers); zeroes = h .zeroes; leaves = h .leaves; tallies = h .tallies }
 
 pub kes-make-spec : {M : Type 1} → statement M
 kes-make-spec = tie.close (tie.spec (λ c κs. search needs) (λ c. search needs) mul-result (λ c. search needs) (λ c κs. search needs) (λ c. search needs) (λ c. search needs) (λ c. search needs) returns (λ c. search needs) (λ c. search needs) returns-2)

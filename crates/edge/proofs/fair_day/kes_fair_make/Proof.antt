@@ -8,7 +8,7 @@ returns : tie.Need-returns
 returns c =
     let c₉ = c .before .before .before .before .before .before .before .before .before in
     let h = c₉ .make .ensures in
-    record { numbers = c .answered .ensures ∙ ap answerNumber (h .answers); zeroes-master = h .zeroes-master; zeroes-seeds = h .zeroes-seeds; leaves = h .leaves; writes-key = h .writes-key }
+    record { numbers = c .answered .ensures ∙ ap answerNumber (h .answers); zeroes-master = h .zeroes-master; zeroes-seeds = h .zeroes-seeds; leaves = h .leaves; writes-key = h .writes-key; tallies = h .tallies }
 
 pub kes-fair-make-spec : {M : Type 1} → statement M
 kes-fair-make-spec =

@@ -4,7 +4,7 @@ use borrow.Author.Needs.{needs}
 use Rattle.fields.proofs.Laws.{length-tail}
 use Rattle.rules.specs.Table.{headerSize, steps}
 use Rattle.rules.proofs.Headers.{Whole, whole}
-use Rattle.key.proofs.Outcomes.{move-refused, move-late, move-not-later, move-done}
+use Rattle.key.proofs.Outcomes.{move-refused, move-late, move-not-later, move-unanswered, move-done}
 use Rattle.key.proofs.calls.move_to.Statement.{statement}
 use Rattle.key.proofs.calls.move_to.Tie as tie
 
@@ -15,9 +15,8 @@ returns : tie.Need-returns
 returns c =
     let c₁ = c .before in
     let c₃ = c₁ .before .before in
-    let c₆ = c₃ .before .before .before in
-    let a = c₆ .args in
-    move-refused (a .table .now) (a .step) (c₃ .read-header .ensures) (c₁ .enum-told .given .1) (c .grown-of .ensures)
+    let a = c₃ .before .before .before .args in
+    move-refused (a .table .now) (a .step) (a .tally .now) (c₃ .read-header .ensures) (c₁ .enum-told .given .1) (c .grown-of .ensures)
 
 steps-requires : tie.Need-steps-requires
 steps-requires c κs =
@@ -29,9 +28,8 @@ returns-2 c =
     let c₁ = c .before in
     let c₃ = c₁ .before .before in
     let c₅ = c₃ .before .before in
-    let c₈ = c₅ .before .before .before in
-    let a = c₈ .args in
-    move-late (a .table .now) (a .step) (c₅ .read-header .ensures) (c₃ .found .given .1) (c₁ .steps .ensures) (c .if1 .taken)
+    let a = c₅ .before .before .before .args in
+    move-late (a .table .now) (a .step) (a .tally .now) (c₅ .read-header .ensures) (c₃ .found .given .1) (c₁ .steps .ensures) (c .if1 .taken)
 
 returns-3 : tie.Need-returns-3
 returns-3 c =
@@ -39,9 +37,8 @@ returns-3 c =
     let c₂ = c₁ .before in
     let c₄ = c₂ .before .before in
     let c₆ = c₄ .before .before in
-    let c₉ = c₆ .before .before .before in
-    let a = c₉ .args in
-    move-not-later (a .table .now) (a .step) (c₆ .read-header .ensures) (c₄ .found .given .1) (c₂ .steps .ensures) (c₁ .if1 .left) (c .if2 .taken)
+    let a = c₆ .before .before .before .args in
+    move-not-later (a .table .now) (a .step) (a .tally .now) (c₆ .read-header .ensures) (c₄ .found .given .1) (c₂ .steps .ensures) (c₁ .if1 .left) (c .if2 .taken)
 
 sub-move-body : tie.Need-sub-move-body
 sub-move-body c =
@@ -55,37 +52,50 @@ part-move-body-start c =
 
 move-body-requires : tie.Need-move-body-requires
 move-body-requires c κs =
-    let c₁ = c .before in
-    let c₅ = c₁ .before .before .before .before in
-    let c₁₀ = c₅ .before .before .before .before .before in
-    let w = formed c₅ in
-    let e = length-tail (c₁₀ .args .table .now) headerSize in
-    (w .low1, w .low2, c₁ .if2 .left, omega arith, omega arith)
-
-put-header-requires : tie.Need-put-header-requires
-put-header-requires c κs =
-    let c₉ = c .before .before .before .before .before .before .before .before .before in
-    let w = formed c₉ in
-    (w .low1, w .low2, omega arith)
+    let c₂ = c .before .before in
+    let c₆ = c₂ .before .before .before .before in
+    let c₁₁ = c₆ .before .before .before .before .before in
+    let w = formed c₆ in
+    let e = length-tail (c₁₁ .args .table .now) headerSize in
+    (w .low1, w .low2, c₂ .if2 .left, omega arith, omega arith)
 
 returns-4 : tie.Need-returns-4
 returns-4 c =
-    let c₂ = c .before .before in
-    let c₆ = c₂ .before .before .before .before in
-    let c₈ = c₆ .before .before in
+    let c₄ = c .before .before .before .before in
+    let c₇ = c₄ .before .before .before in
+    let c₈ = c₇ .before in
     let c₉ = c₈ .before in
-    let c₁₀ = c₉ .before in
-    let c₁₂ = c₁₀ .before .before in
-    let c₁₄ = c₁₂ .before .before in
-    let c₁₇ = c₁₄ .before .before .before in
-    let w = formed c₁₂ in
-    let a = c₁₇ .args in
-    move-done (a .table .now) (a .step) (c₁₄ .read-header .ensures) (c₁₂ .found .given .1) (c₁₀ .steps .ensures) (c₉ .if1 .left) (omega arith)
-    (c₈ .if2 .left) (c₆ .move-body .ensures .0) (c₆ .move-body .ensures .1) (c₂ .put-header .ensures)
+    let c₁₁ = c₉ .before .before in
+    let c₁₃ = c₁₁ .before .before in
+    let w = formed c₁₁ in
+    let a = c₁₃ .before .before .before .args in
+    move-unanswered (a .table .now) (a .step) (a .tally .now) (c₁₃ .read-header .ensures) (c₁₁ .found .given .1) (c₉ .steps .ensures) (c₈ .if1 .left) (omega arith)
+    (c₇ .if2 .left) (c₄ .move-body .ensures) (c .enum-told2 .given .1)
+
+put-header-requires : tie.Need-put-header-requires
+put-header-requires c κs =
+    let c₁₃ = c .before .before .before .before .before .before .before .before .before .before .before .before .before in
+    let w = formed c₁₃ in
+    (w .low1, w .low2, omega arith)
+
+returns-5 : tie.Need-returns-5
+returns-5 c =
+    let c₂ = c .before .before in
+    let c₅ = c₂ .before .before .before in
+    let c₉ = c₅ .before .before .before .before in
+    let c₁₂ = c₉ .before .before .before in
+    let c₁₃ = c₁₂ .before in
+    let c₁₄ = c₁₃ .before in
+    let c₁₆ = c₁₄ .before .before in
+    let c₁₈ = c₁₆ .before .before in
+    let w = formed c₁₆ in
+    let a = c₁₈ .before .before .before .args in
+    move-done (a .table .now) (a .step) (a .tally .now) (c₁₈ .read-header .ensures) (c₁₆ .found .given .1) (c₁₄ .steps .ensures) (c₁₃ .if1 .left) (omega arith)
+    (c₁₂ .if2 .left) (c₉ .move-body .ensures) (c₅ .grown .given .1) (c₂ .put-header .ensures)
 
 pub move-to-spec : {M : Type 1} → statement M
 move-to-spec =
     tie.close
     (tie.spec (λ c κs. search needs) (λ c. search needs) (λ c. search needs) (λ c κs. search needs) (λ c. search needs) returns steps-requires
     (λ c. search needs) returns-2 (λ c. search needs) returns-3 sub-move-body part-move-body-start (λ c. search needs) move-body-requires
-    put-header-requires (λ c. search needs) returns-4)
+    (λ c. search needs) (λ c. search needs) (λ c. search needs) returns-4 put-header-requires (λ c. search needs) returns-5)

@@ -5,8 +5,10 @@ use Rattle.part.specs.Heights.{belowOf}
 use Rattle.rules.specs.Part.{total}
 use Rattle.rules.proofs.Steps.{wide-pos, inner-lt}
 use Rattle.fields.proofs.Laws.{length-part, length-tail}
+use Rattle.tree.proofs.Growing.{written, told, asks-false, asks-true, tail-kept, leaves-false}
 use Rattle.part.proofs.Lists.{alone, step-last, size-last, sums-size-last, size-more, sums-size-more}
-use Rattle.part.proofs.Signed.{sums-last, sums-more}
+use Rattle.part.proofs.Bodies.{tail-size}
+use Rattle.part.proofs.Signed.{leaves-last, sums-more}
 use Prim.Native.Nat.{ℕ, _-_, _<_}
 use borrow.Fn.Kinds.{In}
 use borrow.Fn.PlainCycle.{Measures, is, falls, and}
@@ -25,14 +27,14 @@ use Rattle.part.proofs.signing.+put_sums.{statement}
 use Rattle.part.proofs.signing.+put_sums.Tie.{close}
 
 -- the number of trees falls
-abbrev μ : Measures 3 put-sums-kinds.ps ℕ
+abbrev μ : Measures 4 put-sums-kinds.ps ℕ
 μ κs a = a .1 .0 .trees
 
-abbrev here : ℕ → In 3 put-sums-kinds.ps
-here n = and 3 put-sums-kinds.ps (is 3 put-sums-kinds.ps μ n) put-sums.Pre
+abbrev here : ℕ → In 4 put-sums-kinds.ps
+here n = and 4 put-sums-kinds.ps (is 4 put-sums-kinds.ps μ n) put-sums.Pre
 
-abbrev fewer : ℕ → In 3 put-sums-kinds.ps
-fewer n = and 3 put-sums-kinds.ps (falls 3 put-sums-kinds.ps _<_ μ n) put-sums.Pre
+abbrev fewer : ℕ → In 4 put-sums-kinds.ps
+fewer n = and 4 put-sums-kinds.ps (falls 4 put-sums-kinds.ps _<_ μ n) put-sums.Pre
 
 pub +put-sums-spec : {M : Type 1} → statement M
 +put-sums-spec = close μ λ n. put-sums-lts.spec (
@@ -59,22 +61,22 @@ pub +put-sums-spec : {M : Type 1} → statement M
     put-sums.Post
     -- sum-sign-requires
     (λ c κs.
-    let c₁ = c .before in
-    let c₅ = c₁ .before .before .before .before in
-    let x = c₅ .args .heights in
-    let e = alone (x .trees) (x .second) (x .third) (c₁ .if1 .taken) in
+    let c₂ = c .before .before in
+    let c₆ = c₂ .before .before .before .before in
+    let x = c₆ .args .heights in
+    let e = alone (x .trees) (x .second) (x .third) (c₂ .if1 .taken) in
     let z = size-last (x .top) e in
-    (omega arith, step-last (x .top) e (c₅ .pre .1 .1 .0), omega arith, c₅ .pre .1 .1 .1 .1 ∙ sums-size-last (x .top) e))
+    (omega arith, step-last (x .top) e (c₆ .pre .1 .1 .0), omega arith, c₆ .pre .1 .1 .1 .1 ∙ sums-size-last (x .top) e))
     -- same-length
     (λ c. search needs)
     -- returns
     (λ c.
     let c₂ = c .before .before in
-    let c₄ = c₂ .before .before in
-    let c₈ = c₄ .before .before .before .before in
-    let a = c₈ .args in
+    let c₅ = c₂ .before .before .before in
+    let c₉ = c₅ .before .before .before .before in
+    let a = c₉ .args in
     let x = a .heights in
-    (sums-last (a .body .now) (a .message .now) (x .top) (a .t) (alone (x .trees) (x .second) (x .third) (c₄ .if1 .taken)) (c₂ .sum-sign .ensures .0), (refl, refl)))
+    (c₂ .sum-sign .ensures .0, (leaves-last (a .body .now) (a .message .now) (x .top) (a .t) (alone (x .trees) (x .second) (x .third) (c₅ .if1 .taken)) (c₂ .sum-sign .ensures .1 .0), (refl, refl))))
     -- below-requires
     (λ c κs.
     let c₄ = c .before .before .before .before in
@@ -138,72 +140,89 @@ pub +put-sums-spec : {M : Type 1} → statement M
     omega arith)
     -- put-sums-requires
     (λ c κs.
-    let c₂ = c .before .before in
-    let c₃ = c₂ .before in
-    let c₆ = c₃ .before .before .before in
-    let c₇ = c₆ .before in
-    let c₁₂ = c₇ .before .before .before .before .before in
-    let x = c₁₂ .args .heights in
-    let r = c₇ .below .result in
-    let m = c₇ .below .ensures .0 in
+    let c₃ = c .before .before .before in
+    let c₄ = c₃ .before in
+    let c₇ = c₄ .before .before .before in
+    let c₈ = c₇ .before in
+    let c₁₃ = c₈ .before .before .before .before .before in
+    let x = c₁₃ .args .heights in
+    let r = c₈ .below .result in
+    let m = c₈ .below .ensures .0 in
     let e = size-more (x .top) (r .top) m in
     let z = sums-size-more (x .top) (r .top) m in
-    let l = length-tail (c₁₂ .args .body .now) (c₃ .seam-size .result) in
-    let k = length-tail (c₁₂ .args .out .now) (c₂ .sum-size .result) in
-    (omega arith, (c₇ .below .ensures .1 .1, (inner-lt (total (r .top) (belowOf r)) (c₆ .steps .result) (c₆ .steps .ensures) (c₁₂ .args .t), (omega arith, omega arith)))))
-    -- sub-write
-    (λ c.
-    let c₈ = c .before .before .before .before .before .before .before .before in
-    let c₉ = c₈ .before in
-    omega (arith, c₈ .next-at .ensures, c₉ .tree-size .ensures))
-    -- part-write-start
-    (λ c.
-    let c₈ = c .before .before .before .before .before .before .before .before in
-    let c₉ = c₈ .before in
-    let c₁₁ = c₉ .before .before in
-    let c₁₆ = c₁₁ .before .before .before .before .before in
-    let x = c₁₆ .args .heights in
-    let e = size-more (x .top) (c₁₁ .below .result .top) (c₁₁ .below .ensures .0) in
-    omega (arith, e, c₈ .next-at .ensures, c₉ .tree-size .ensures, c₁₆ .pre .1 .1 .1 .0))
-    -- part-write-end
-    (λ c.
-    let c₈ = c .before .before .before .before .before .before .before .before in
-    let c₉ = c₈ .before in
-    let c₁₁ = c₉ .before .before in
-    let c₁₆ = c₁₁ .before .before .before .before .before in
-    let x = c₁₆ .args .heights in
-    let e = size-more (x .top) (c₁₁ .below .result .top) (c₁₁ .below .ensures .0) in
-    omega (arith, e, c₈ .next-at .ensures, c₉ .tree-size .ensures, c₁₆ .pre .1 .1 .1 .0))
-    -- write-requires
-    (λ c κs.
-    let c₉ = c .before .before .before .before .before .before .before .before .before in
-    let c₁₀ = c₉ .before in
-    let c₁₂ = c₁₀ .before .before in
-    let c₁₇ = c₁₂ .before .before .before .before .before in
-    let x = c₁₇ .args .heights in
-    let e = size-more (x .top) (c₁₂ .below .result .top) (c₁₂ .below .ensures .0) in
-    let z = sums-size-more (x .top) (c₁₂ .below .result .top) (c₁₂ .below .ensures .0) in
-    let l = length-part (c₁₇ .args .body .now) (c₁₀ .tree-size .result) (c₉ .next-at .result - c₁₀ .tree-size .result) (omega (arith, e, c₉ .next-at .ensures, c₁₀ .tree-size .ensures, c₁₇ .pre .1 .1 .1 .0)) in
-    omega (arith, z, l, c₉ .next-at .ensures, c₁₀ .tree-size .ensures, c₁₇ .pre .1 .1 .1 .1))
+    let l = length-tail (c₁₃ .args .body .now) (c₄ .seam-size .result) in
+    let k = length-tail (c₁₃ .args .out .now) (c₃ .sum-size .result) in
+    (omega (arith, c₈ .below .ensures .1 .0, c₁₃ .pre .0), (c₈ .below .ensures .1 .1, (inner-lt (total (r .top) (belowOf r)) (c₇ .steps .result) (c₇ .steps .ensures) (c₁₃ .args .t), (omega (arith, e, l, c₄ .seam-size .ensures, c₁₃ .pre .1 .1 .1 .0), omega (arith, z, k, c₃ .sum-size .ensures, c₁₃ .pre .1 .1 .1 .1))))))
     -- same-length-2
     (λ c. search needs)
     -- returns-2
     (λ c.
-    let c₂ = c .before .before in
-    let c₇ = c₂ .before .before .before .before .before in
-    let c₁₀ = c₇ .before .before .before in
+    let c₃ = c .before .before .before in
+    let c₇ = c₃ .before .before .before .before in
+    let c₁₇ = c₇ .before .before .before .before .before .before .before .before .before .before in
+    let a = c₁₇ .args in
+    let n = c .if2 .taken in
+    let g = c₃ .put-sums .ensures in
+    (asks-false 1 (a .tally .now) n (g .0), (leaves-false n (tail-kept (a .out .now) (c₇ .sum-size .result) n (g .1 .0)), (refl, refl))))
+    -- sub-write
+    (λ c.
+    let c₁₀ = c .before .before .before .before .before .before .before .before .before .before in
     let c₁₁ = c₁₀ .before in
+    omega (arith, c₁₀ .next-at .ensures, c₁₁ .tree-size .ensures))
+    -- part-write-start
+    (λ c.
+    let c₁₀ = c .before .before .before .before .before .before .before .before .before .before in
+    let c₁₁ = c₁₀ .before in
+    let c₁₃ = c₁₁ .before .before in
+    let c₁₈ = c₁₃ .before .before .before .before .before in
+    let x = c₁₈ .args .heights in
+    let e = size-more (x .top) (c₁₃ .below .result .top) (c₁₃ .below .ensures .0) in
+    omega (arith, e, c₁₀ .next-at .ensures, c₁₁ .tree-size .ensures, c₁₈ .pre .1 .1 .1 .0))
+    -- part-write-end
+    (λ c.
+    let c₁₀ = c .before .before .before .before .before .before .before .before .before .before in
+    let c₁₁ = c₁₀ .before in
+    let c₁₃ = c₁₁ .before .before in
+    let c₁₈ = c₁₃ .before .before .before .before .before in
+    let x = c₁₈ .args .heights in
+    let e = size-more (x .top) (c₁₃ .below .result .top) (c₁₃ .below .ensures .0) in
+    omega (arith, e, c₁₀ .next-at .ensures, c₁₁ .tree-size .ensures, c₁₈ .pre .1 .1 .1 .0))
+    -- write-requires
+    (λ c κs.
+    let c₅ = c .before .before .before .before .before in
+    let c₉ = c₅ .before .before .before .before in
+    let c₁₁ = c₉ .before .before in
     let c₁₂ = c₁₁ .before in
+    let c₁₄ = c₁₂ .before .before in
+    let c₁₉ = c₁₄ .before .before .before .before .before in
+    let x = c₁₉ .args .heights in
+    let e = size-more (x .top) (c₁₄ .below .result .top) (c₁₄ .below .ensures .0) in
+    let z = sums-size-more (x .top) (c₁₄ .below .result .top) (c₁₄ .below .ensures .0) in
+    let l = length-part (c₁₉ .args .body .now) (c₁₂ .tree-size .result) (c₁₁ .next-at .result - c₁₂ .tree-size .result) (omega (arith, e, c₁₁ .next-at .ensures, c₁₂ .tree-size .ensures, c₁₉ .pre .1 .1 .1 .0)) in
+    let w = tail-size (c₁₉ .args .out .now) (c₅ .put-sums .last .1 .1 .1 .1 .0) (c₉ .sum-size .result) (omega (arith, z, c₉ .sum-size .ensures, c₁₉ .pre .1 .1 .1 .1)) (c₅ .put-sums .kept .1 .1 .1 .1 .0) in
+    omega (arith, z, l, w, c₁₁ .next-at .ensures, c₁₂ .tree-size .ensures, c₁₉ .pre .1 .1 .1 .1))
+    -- same-length-3
+    (λ c. search needs)
+    -- returns-3
+    (λ c.
+    let c₂ = c .before .before in
+    let c₅ = c₂ .before .before .before in
+    let c₈ = c₅ .before .before .before in
+    let c₁₂ = c₈ .before .before .before .before in
     let c₁₃ = c₁₂ .before in
     let c₁₄ = c₁₃ .before in
     let c₁₅ = c₁₄ .before in
-    let c₂₀ = c₁₅ .before .before .before .before .before in
-    let a = c₂₀ .args in
+    let c₁₆ = c₁₅ .before in
+    let c₁₇ = c₁₆ .before in
+    let c₂₂ = c₁₇ .before .before .before .before .before in
+    let a = c₂₂ .args in
     let x = a .heights in
-    let g = c₁₅ .below .result .top in
-    let m = c₁₅ .below .ensures .0 in
+    let g = c₁₇ .below .result .top in
+    let m = c₁₇ .below .ensures .0 in
     let e = size-more (x .top) g m in
     let z = sums-size-more (x .top) g m in
-    let whole = sums-more (a .body .now) (a .message .now) (a .out .now) (x .top) g (a .t) m (omega (arith, e, c₂₀ .pre .1 .1 .1 .0)) (omega (arith, z, c₂₀ .pre .1 .1 .1 .1)) (c₁₄ .steps .ensures) (c₁₃ .tree-size .ensures) (c₁₂ .next-at .ensures)
-    (c₁₁ .seam-size .ensures) (c₁₀ .sum-size .ensures) (c₇ .put-sums .ensures .0) (c₂ .write .ensures .0) in
-    (whole, (refl, refl)))
+    let y = c₅ .if2 .left in
+    let s = c₈ .put-sums .ensures in
+    let whole = sums-more (a .body .now) (a .message .now) (a .out .now) (x .top) g (a .t) m (omega (arith, e, c₂₂ .pre .1 .1 .1 .0)) (omega (arith, z, c₂₂ .pre .1 .1 .1 .1)) (c₁₆ .steps .ensures) (c₁₅ .tree-size .ensures) (c₁₄ .next-at .ensures)
+    (c₁₃ .seam-size .ensures) (c₁₂ .sum-size .ensures) (written y (s .1 .0)) (c₂ .write .ensures .0) in
+    (asks-true 1 (a .tally .now) y (s .0), (told refl whole, (refl, refl))))

@@ -1,0 +1,211 @@
+-- Request 4, call by call: number 9 exactly where a number passed is one whose call is not answered; how many numbers are passed; a call that gives no 9 has
+-- the outcome of the call with every answer given; and a refusal other than 9 leaves the tally.
+use mathlib.Core.Path.{_≡_, refl, sym, ap, _∙_}
+use mathlib.Core.Logic.{_⊎_, inl, inr}
+use mathlib.Core.List.{List, [], _∷_}
+use mathlib.Core.Bool.{Bool, true, false}
+use Prim.Native.Nat.{ℕ, _+_, _^_, _≤_, _<_}
+use native.Mathlib.Omega.{arith}
+use lib.Dec.{eqb}
+use Rattle.fields.specs.Tests.{pick}
+use Rattle.refusal.specs.declared.Refusal.{Refusal}
+use Rattle.refusal.specs.declared.Refusal.the-variants.{Unanswered}
+use Rattle.ed25519.specs.Tally.{Run, asked, passed, Exactly}
+use Rattle.ed25519.proofs.Passed.{nine, passes}
+use Rattle.rules.specs.Part.{outer, countNewPart, countPart, callsNewPart, callsPart, rootsPart}
+use Rattle.rules.specs.Table.{headerIn}
+use Rattle.rules.specs.Answers.{grownTold, answerNumber}
+use Rattle.rules.specs.Calls.{makeWork, Makes, MakeOutcome, notMade, makeOutcome, makeTallied}
+use Rattle.rules.specs.Calls.{moveWork, Moves, MoveOutcome, notMoved, moveOutcome, moveTallied}
+use Rattle.rules.specs.Calls.{Signs, SignOutcome, notSigned, signOutcome, signTallied}
+use Rattle.rules.specs.Listed.{makeListed, moveListed, signListed}
+use Rattle.rules.specs.declared.Grown.{Grown}
+use Rattle.rules.specs.declared.Grown.the-variants as grown
+use Rattle.rules.specs.declared.Answer.{Answer}
+use Rattle.rules.specs.declared.Answer.the-variants as answer
+use Rattle.rules.proofs.Bounds.{new-calls, part-calls}
+use Rattle.rules.proofs.Once.{make-listed, move-listed, sign-listed}
+use Rattle.rules.proofs.Small.{make-small, move-small}
+use Rattle.rules.proofs.Untouched.{of-listed, grown-not, answer-not}
+
+-- what is said of a chosen outcome is chosen
+pub says-pick : {O A : Type 0} (f : O → A) (x y : O) (g : Bool) → f (pick g x y) ≡ pick g (f x) (f y)
+says-pick f x y true = refl
+says-pick f x y false = refl
+
+-- an answer that is not that of a silence was given where every module call was answered
+pub heard : {A : Type 0} {a silent : A} (given : A) (g : Bool) → a ≡ pick g given silent → (a ≡ silent → ⊥) → g ≡ true
+heard given true e n = refl
+heard given false e n = absurd (n e)
+
+-- what is done under a tally is done with every answer given
+done-heard : {O : Type 0} (says : O → Grown) (x y : O) {n : ℕ} (g : Bool) → (says y ≡ grown.Done n → ⊥) → says (pick g x y) ≡ grown.Done n → says x ≡ grown.Done n
+done-heard says x y true f e = e
+done-heard says x y false f e = absurd (f e)
+
+pub make-tallied-done : (h1 h2 : ℕ) (s d : List ℕ) (t : ℕ) {n : ℕ} → makeTallied h1 h2 s d t .answer ≡ grown.Done n → makeOutcome h1 h2 s d .answer ≡ grown.Done n
+unfolding makeTallied
+make-tallied-done h1 h2 s d t =
+    done-heard (λ (o : MakeOutcome). o .answer) (makeOutcome h1 h2 s d) (notMade Unanswered s d) (asked (makeOutcome h1 h2 s d .calls) t .given)
+    (λ e. grown-not (sym e))
+
+pub move-tallied-done : (d : List ℕ) (b t : ℕ) {n : ℕ} → moveTallied d b t .answer ≡ grown.Done n → moveOutcome d b .answer ≡ grown.Done n
+unfolding moveTallied
+move-tallied-done d b t =
+    done-heard (λ (o : MoveOutcome). o .answer) (moveOutcome d b) (notMoved Unanswered d) (asked (moveOutcome d b .calls) t .given) (λ e. grown-not (sym e))
+
+-- make
+abbrev makeCount : ℕ → ℕ → ℕ
+makeCount h1 h2 = countNewPart h1 (h2 ∷ []) 0
+
+module _ (h1 h2 : ℕ) (s d : List ℕ) where
+  make-not-9 : makeOutcome h1 h2 s d .answer ≡ grown.Refused Unanswered → ⊥
+  make-not-9 e =
+      of-listed (λ (o : MakeOutcome). grownTold (o .answer) .number ≡ 9 → ⊥) (makeListed h1 h2 s d)
+      (λ z. omega arith, (λ z. omega arith, (λ z. omega arith, (λ z. omega arith, tt)))) (make-listed h1 h2 s d)
+      (ap (λ (a : Grown). grownTold a .number) e)
+
+  make-calls : (makeOutcome h1 h2 s d .calls ≡ 0) ⊎ ((makeOutcome h1 h2 s d .answer ≡ grown.Done (makeCount h1 h2)) × (makeOutcome h1 h2 s d .calls ≤ makeCount h1 h2 + 1))
+  unfolding makeWork
+  make-calls =
+      of-listed (λ (o : MakeOutcome). (o .calls ≡ 0) ⊎ ((o .answer ≡ grown.Done (makeCount h1 h2)) × (o .calls ≤ makeCount h1 h2 + 1))) (makeListed h1 h2 s d)
+      (inl refl, (inl refl, (inl refl, (inr (refl, new-calls (h2 ∷ []) h1 0), tt)))) (make-listed h1 h2 s d)
+
+  make-few : (makeOutcome h1 h2 s d .calls < 2 ^ 64) × (makeOutcome h1 h2 s d .calls ≤ makeCount h1 h2 + 1)
+  make-few = elim make-calls [
+    | inl z ↦ (omega arith, omega arith)
+    | inr p ↦ (let l = make-small h1 h2 s d (p .0) in let q = p .1 in omega arith, p .1)
+  ]
+
+  make-refused : (why : Refusal) → makeOutcome h1 h2 s d .answer ≡ grown.Refused why → makeOutcome h1 h2 s d .calls ≡ 0
+  make-refused why =
+      of-listed (λ (o : MakeOutcome). o .answer ≡ grown.Refused why → o .calls ≡ 0) (makeListed h1 h2 s d)
+      (λ e. refl, (λ e. refl, (λ e. refl, (λ e. absurd (grown-not e), tt)))) (make-listed h1 h2 s d)
+
+  module _ {t t′ : ℕ} {a : Grown} {s′ d′ : List ℕ} (m : Makes h1 h2 s d t a s′ d′ t′) where
+    make-chosen : a ≡ pick (asked (makeOutcome h1 h2 s d .calls) t .given) (makeOutcome h1 h2 s d .answer) (grown.Refused Unanswered)
+    unfolding makeTallied
+    make-chosen = m .answers ∙ says-pick (λ (o : MakeOutcome). o .answer) (makeOutcome h1 h2 s d) (notMade Unanswered s d) (asked (makeOutcome h1 h2 s d .calls) t .given)
+
+    pub make-nine : t < 2 ^ 64 → Exactly (a ≡ grown.Refused Unanswered) t t′
+    make-nine u = nine (makeOutcome h1 h2 s d .calls) t u (make-few .0) make-not-9 make-chosen (m .tallies)
+
+    -- at most the rules' count, and one for the root signed
+    pub make-passes : t < 2 ^ 64 → passed t t′ ≤ makeCount h1 h2 + 1
+    make-passes u = passes (makeOutcome h1 h2 s d .calls) t u (make-few .0) (m .tallies) (make-few .1)
+
+    pub make-given : (a ≡ grown.Refused Unanswered → ⊥)
+        → (a ≡ makeOutcome h1 h2 s d .answer) × (s′ ≡ makeOutcome h1 h2 s d .seed) × (d′ ≡ makeOutcome h1 h2 s d .table)
+    unfolding makeTallied
+    make-given n =
+        let y = heard (makeOutcome h1 h2 s d .answer) (asked (makeOutcome h1 h2 s d .calls) t .given) make-chosen n in
+        (m .answers ∙ rw y, m .zeroes ∙ rw y, m .leaves ∙ rw y)
+
+    pub make-tally-left : {why : Refusal} → a ≡ grown.Refused why → (a ≡ grown.Refused Unanswered → ⊥) → t′ ≡ t
+    unfolding asked
+    make-tally-left {why} e n = m .tallies ∙ rw (make-refused why (sym (make-given n .0) ∙ e))
+
+-- move: at most the count, and one for each root signed
+abbrev moveCount : List ℕ → ℕ → ℕ
+moveCount d b = let x = headerIn d in countPart (x .h1) (x .h2 ∷ []) (x .step) b
+
+abbrev moveRoots : List ℕ → ℕ → ℕ
+moveRoots d b = let x = headerIn d in rootsPart (x .h1) (x .h2 ∷ []) (x .step) b
+
+one-root : (h1 h2 a b : ℕ) → rootsPart h1 (h2 ∷ []) a b ≤ 1
+unfolding rootsPart
+one-root h1 h2 a b = go (eqb (outer h2 a) (outer h2 b))
+  where
+    go : (x : Bool) → pick x 0 1 ≤ 1
+    go true = omega arith
+    go false = omega arith
+
+module _ (d : List ℕ) (b : ℕ) where
+  move-not-9 : moveOutcome d b .answer ≡ grown.Refused Unanswered → ⊥
+  move-not-9 e =
+      of-listed (λ (o : MoveOutcome). grownTold (o .answer) .number ≡ 9 → ⊥) (moveListed d b)
+      (λ z. omega arith, (λ z. omega arith, (λ z. omega arith, (λ z. omega arith, tt)))) (move-listed d b)
+      (ap (λ (a : Grown). grownTold a .number) e)
+
+  move-calls : (moveOutcome d b .calls ≡ 0) ⊎ ((moveOutcome d b .answer ≡ grown.Done (moveCount d b)) × (moveOutcome d b .calls ≤ moveCount d b + moveRoots d b))
+  unfolding moveWork
+  move-calls =
+      let x = headerIn d in
+      of-listed (λ (o : MoveOutcome). (o .calls ≡ 0) ⊎ ((o .answer ≡ grown.Done (moveCount d b)) × (o .calls ≤ moveCount d b + moveRoots d b))) (moveListed d b)
+      (inl refl, (inl refl, (inl refl, (inr (refl, part-calls (x .h2 ∷ []) (x .h1) (x .step) b), tt)))) (move-listed d b)
+
+  move-few : (moveOutcome d b .calls < 2 ^ 64) × (moveOutcome d b .calls ≤ moveCount d b + moveRoots d b)
+  move-few = elim move-calls [
+    | inl z ↦ (omega arith, omega arith)
+    | inr p ↦
+        let x = headerIn d in
+        (let l = move-small d b (p .0) in let q = p .1 in let r = one-root (x .h1) (x .h2) (x .step) b in omega arith, p .1)
+  ]
+
+  move-refused : (why : Refusal) → moveOutcome d b .answer ≡ grown.Refused why → moveOutcome d b .calls ≡ 0
+  move-refused why =
+      of-listed (λ (o : MoveOutcome). o .answer ≡ grown.Refused why → o .calls ≡ 0) (moveListed d b)
+      (λ e. refl, (λ e. refl, (λ e. refl, (λ e. absurd (grown-not e), tt)))) (move-listed d b)
+
+  module _ {t t′ : ℕ} {a : Grown} {d′ : List ℕ} (m : Moves d b t a d′ t′) where
+    move-chosen : a ≡ pick (asked (moveOutcome d b .calls) t .given) (moveOutcome d b .answer) (grown.Refused Unanswered)
+    unfolding moveTallied
+    move-chosen = m .answers ∙ says-pick (λ (o : MoveOutcome). o .answer) (moveOutcome d b) (notMoved Unanswered d) (asked (moveOutcome d b .calls) t .given)
+
+    pub move-nine : t < 2 ^ 64 → Exactly (a ≡ grown.Refused Unanswered) t t′
+    move-nine u = nine (moveOutcome d b .calls) t u (move-few .0) move-not-9 move-chosen (m .tallies)
+
+    pub move-passes : t < 2 ^ 64 → passed t t′ ≤ moveCount d b + moveRoots d b
+    move-passes u = passes (moveOutcome d b .calls) t u (move-few .0) (m .tallies) (move-few .1)
+
+    pub move-given : (a ≡ grown.Refused Unanswered → ⊥) → (a ≡ moveOutcome d b .answer) × (d′ ≡ moveOutcome d b .table)
+    unfolding moveTallied
+    move-given n =
+        let y = heard (moveOutcome d b .answer) (asked (moveOutcome d b .calls) t .given) move-chosen n in
+        (m .answers ∙ rw y, m .leaves ∙ rw y)
+
+    pub move-tally-left : {why : Refusal} → a ≡ grown.Refused why → (a ≡ grown.Refused Unanswered → ⊥) → t′ ≡ t
+    unfolding asked
+    move-tally-left {why} e n = m .tallies ∙ rw (move-refused why (sym (move-given n .0) ∙ e))
+
+-- sign: one
+module _ (d m out : List ℕ) where
+  sign-not-9 : signOutcome d m out .answer ≡ answer.Refused Unanswered → ⊥
+  sign-not-9 e =
+      of-listed (λ (o : SignOutcome). answerNumber (o .answer) ≡ 9 → ⊥) (signListed d m out)
+      (λ z. omega arith, (λ z. omega arith, (λ z. omega arith, (λ z. omega arith, tt)))) (sign-listed d m out)
+      (ap answerNumber e)
+
+  sign-few : signOutcome d m out .calls ≤ 1
+  sign-few =
+      of-listed (λ (o : SignOutcome). o .calls ≤ 1) (signListed d m out)
+      (omega arith, (omega arith, (omega arith, (omega arith, tt)))) (sign-listed d m out)
+
+  sign-refused : (why : Refusal) → signOutcome d m out .answer ≡ answer.Refused why → signOutcome d m out .calls ≡ 0
+  sign-refused why =
+      of-listed (λ (o : SignOutcome). o .answer ≡ answer.Refused why → o .calls ≡ 0) (signListed d m out)
+      (λ e. refl, (λ e. refl, (λ e. refl, (λ e. absurd (answer-not e), tt)))) (sign-listed d m out)
+
+  module _ {t t′ : ℕ} {a : Answer} {d′ m′ out′ : List ℕ} (w : Signs d m out t a d′ m′ out′ t′) where
+    sign-chosen : a ≡ pick (asked (signOutcome d m out .calls) t .given) (signOutcome d m out .answer) (answer.Refused Unanswered)
+    unfolding signTallied
+    sign-chosen = w .answers ∙ says-pick (λ (o : SignOutcome). o .answer) (signOutcome d m out) (notSigned Unanswered d m out) (asked (signOutcome d m out .calls) t .given)
+
+    small : signOutcome d m out .calls < 2 ^ 64
+    small = let l = sign-few in omega arith
+
+    pub sign-nine : t < 2 ^ 64 → Exactly (a ≡ answer.Refused Unanswered) t t′
+    sign-nine u = nine (signOutcome d m out .calls) t u small sign-not-9 sign-chosen (w .tallies)
+
+    pub sign-passes : t < 2 ^ 64 → passed t t′ ≤ 1
+    sign-passes u = passes (signOutcome d m out .calls) t u small (w .tallies) sign-few
+
+    pub sign-given : (a ≡ answer.Refused Unanswered → ⊥) → (a ≡ signOutcome d m out .answer) × (out′ ≡ signOutcome d m out .out)
+    unfolding signTallied
+    sign-given n =
+        let y = heard (signOutcome d m out .answer) (asked (signOutcome d m out .calls) t .given) sign-chosen n in
+        (w .answers ∙ rw y, w .leaves ∙ rw y)
+
+    pub sign-tally-left : {why : Refusal} → a ≡ answer.Refused why → (a ≡ answer.Refused Unanswered → ⊥) → t′ ≡ t
+    unfolding asked
+    sign-tally-left {why} e n = w .tallies ∙ rw (sign-refused why (sym (sign-given n .0) ∙ e))

@@ -1,0 +1,86 @@
+#!/usr/bin/env python3
+"""A module that drops out, at every place at which a call can fail: each make and move at heights 2 and 2, signing, a fair's make of three
+entries and its signing, from tallies near 0, 2^32 and 2^64. Each time the call is made again with the tally left. Every answer, every
+buffer and the tally are the independent model's. And nothing but the seam stores to a tally. Needs desk/build before."""
+import itertools
+import pathlib
+import re
+import sys
+import tempfile
+
+sys.dont_write_bytecode = True
+from library import FAIR_MAKE, FAIR_SIGN, MAKE, MOVE, SIGN, Library
+from modelled import NAMES, Model, fair, kes, show, sodium
+
+ROOT = pathlib.Path(__file__).resolve().parents[2]
+STARTS = [0, 2**32 - 4, 2**32 + 96, 2**64 - 4]
+# of so many numbers one is silent, so that no call passes two; it divides 2^64, after which the numbers begin anew
+EVERY = 2**32
+
+
+def askings(model):
+    """Each call, over what it is lent. What it may write to is no zeros, so that clearing shows."""
+    master, seeds, nines = bytes(range(32)), bytes(range(96)), b"\x09"
+    _, _, (_, fresh) = model.call(MAKE, 2, 2, 0, [master, bytes(712)])
+    tables = [fresh] + [model.call(MOVE, 0, 0, step, [fresh])[2][0] for step in range(1, 16)]
+    cache = model.call(FAIR_MAKE, 3, 0, 0, [master, seeds, bytes(fair.cache_size(3)), bytes(32)])[2][2]
+    yield MAKE, 2, 2, 0, [master, nines * 712]
+    for a, b in itertools.combinations(range(16), 2):
+        yield MOVE, 0, 0, b, [tables[a]]
+    yield SIGN, 0, 0, 0, [tables[9], b"a top-up", nines * 352]
+    yield FAIR_MAKE, 3, 0, 0, [master, seeds, nines * fair.cache_size(3), nines * 32]
+    yield FAIR_SIGN, 0, 0, 0, [cache, b"a sale", nines * fair.SIGNATURE]
+
+
+def same(library, model, request):
+    """What both answer and leave."""
+    given, expected = library.call(*request), model.call(*request)
+    if given != expected:
+        sys.exit(f"silences: the library and the model differ at\n{show(request)}\nlibrary {given}\nmodel {expected}")
+    return given
+
+
+def fail_and_retry(library, model, asking, start, k):
+    """The k-th asking from start on is silent: 9, and then the same call, with the tally left, is done."""
+    module = EVERY, (start + k) % EVERY
+    answer, (*_, tally), left = same(library, model, (*asking, (start, *module)))
+    if (answer, tally, left) != (kes.UNANSWERED, (start + k + 1) % 2**64, asking[4]):
+        sys.exit(f"silences: {NAMES[asking[0]]}: a silence gives {answer} or leaves another thing than the tally")
+    return same(library, model, (*asking, (tally, *module)))
+
+
+def silent_places(library, model, asking):
+    """Every failing place of a call; answers how many there were."""
+    places = 0
+    for start in STARTS:
+        done = same(library, model, (*asking, (start, 0, 0)))
+        for k in range((done[1][3] - start) % 2**64):
+            again = fail_and_retry(library, model, asking, start, k)
+            if (again[0], again[2]) != (done[0], done[2]):
+                sys.exit(f"silences: {NAMES[asking[0]]}: after a silence the same call does something else")
+            places += 1
+    return places
+
+
+def stores():
+    """The files that store to a tally."""
+    sources = [*ROOT.glob("crates/*/src/**/*.rt"), *ROOT.glob("desk/ed25519/*.rt.extern")]
+    return {str(path.relative_to(ROOT)) for path in sources if re.search(r"\*tally\s*[-+*/%&|^<>]*=[^=]", path.read_text())}
+
+
+def main():
+    expected = {"crates/ed25519/src/lib.rt", "desk/ed25519/lib.rt.extern"}
+    if stores() != expected:
+        sys.exit(f"silences: a tally is stored to in {sorted(stores())}, not in {sorted(expected)}")
+    places = {}
+    with tempfile.TemporaryDirectory() as folder:
+        library, model = Library(folder), Model(sodium)
+        for asking in askings(model):
+            name = NAMES[asking[0]]
+            places[name] = places.get(name, 0) + silent_places(library, model, asking)
+    for name, count in places.items():
+        print(f"silences: {name}: {count} places at which it fails, and is done when tried again")
+    print("silences: nothing but the seam stores to a tally")
+
+
+main()
