@@ -16,7 +16,7 @@ use Rattle.text.proofs.Cuts.{side}
 use Rattle.text.proofs.Reading.{both, picked, low-within}
 use Rattle.text.proofs.Writing.{decimal-small, decimal-more}
 
-every-append : (p : ℕ → Bool) (a b : List ℕ) → every p (a ++ b) ≡ true → (every p a ≡ true) × (every p b ≡ true)
+pub every-append : (p : ℕ → Bool) (a b : List ℕ) → every p (a ++ b) ≡ true → (every p a ≡ true) × (every p b ≡ true)
 unfolding every
 every-append p [] b e = (refl, e)
 every-append p (x ∷ a) b e =
@@ -24,12 +24,12 @@ every-append p (x ∷ a) b e =
     let r = every-append p a b (h .1) in
     (rw (h .0, r .0), r .1)
 
-value-snoc : (n : ℕ) (a : List ℕ) (x : ℕ) → valueFrom n (a ++ (x ∷ [])) ≡ valueFrom n a * 10 + (x - 48)
+pub value-snoc : (n : ℕ) (a : List ℕ) (x : ℕ) → valueFrom n (a ++ (x ∷ [])) ≡ valueFrom n a * 10 + (x - 48)
 unfolding valueFrom
 value-snoc n [] x = refl
 value-snoc n (y ∷ a) x = value-snoc (n * 10 + (y - 48)) a x
 
-digit-range : (x : ℕ) → isDigit x ≡ true → (48 ≤ x) × (x ≤ 57)
+pub digit-range : (x : ℕ) → isDigit x ≡ true → (48 ≤ x) × (x ≤ 57)
 unfolding isDigit
 digit-range x e = let h = both (leb 48 x) (leb x 57) e in (leb-true 48 x (h .0), leb-true x 57 (h .1))
 

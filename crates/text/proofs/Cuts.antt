@@ -1,7 +1,7 @@
 -- Where a field ends, found byte by byte; and a line's fields, the first and then the rest.
 use mathlib.Core.Path.{_≡_, refl, sym, ap, _∙_}
 use mathlib.Core.Logic.{_⊎_, inl, inr}
-use mathlib.Core.List.{List, [], _∷_}
+use mathlib.Core.List.{List, [], _∷_, _++_}
 use mathlib.Core.Bool.{Bool, true, false}
 use Prim.Native.Nat.{ℕ, suc, _+_, _-_, _≤_, _<_}
 use native.Mathlib.Decide.{decLt}
@@ -10,7 +10,7 @@ use native.Mathlib.Omega.{arith}
 use lib.Dec.{eqb}
 use lib.ListN.{length, getD, take, drop, length-drop, drop-of-length-le}
 use lib.Seq.{drop-cons, drop-drop, take-all}
-use borrow.Author.Tests.{eq-eqb, ne-eqb}
+use borrow.Author.Tests.{eq-eqb, ne-eqb, eqb-true}
 use Rattle.fields.specs.Tests.{pick}
 use Rattle.text.specs.Fields.{before, between, withFirst, fields}
 
@@ -98,3 +98,28 @@ first-field l = elim (decLt (before 9 l) (length l)) [
   | yes h ↦ record { first = _; rest = _; are = parted l h }
   | no f ↦ record { first = _; rest = _; are = alone l (omega arith) }
 ]
+
+-- THE LINE AGAIN: its fields with a tab between
+unfoldable pub withTabs : List (List ℕ) → List ℕ
+withTabs [] = []
+withTabs (f ∷ []) = f
+withTabs (f ∷ g ∷ fs) = f ++ (9 ∷ withTabs (g ∷ fs))
+
+first-more : (x : ℕ) (fs : List (List ℕ)) → withTabs (withFirst x fs) ≡ x ∷ withTabs fs
+unfolding withTabs
+first-more x [] = refl
+first-more x (f ∷ []) = refl
+first-more x (f ∷ g ∷ fs) = refl
+
+tab-more : (xs : List ℕ) → withTabs ([] ∷ fields xs) ≡ 9 ∷ withTabs (fields xs)
+unfolding withTabs
+tab-more xs = let f = first-field xs in rw (f .are)
+
+rejoined-cons : (t : Bool) (x : ℕ) (xs : List ℕ) → eqb x 9 ≡ t → withTabs (fields xs) ≡ xs → withTabs (pick t ([] ∷ fields xs) (withFirst x (fields xs))) ≡ x ∷ xs
+rejoined-cons true x xs e ih = tab-more xs ∙ rw (ih, eqb-true x 9 e)
+rejoined-cons false x xs e ih = first-more x (fields xs) ∙ rw ih
+
+pub rejoined : (l : List ℕ) → withTabs (fields l) ≡ l
+unfolding withTabs fields
+rejoined [] = refl
+rejoined (x ∷ xs) = rejoined-cons (eqb x 9) x xs refl (rejoined xs)
