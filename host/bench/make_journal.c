@@ -31,7 +31,7 @@ static void begin(void)
     uint8_t seed[KES_SEED_SIZE] = "a race may take a fixed seed...";
     must(kes_number(kes_make(H1, H2, seed, sizeof seed, table, sizeof table, &tally)) == KES_DONE, "no key is made");
     must(kes_read_key(table, sizeof table, key, sizeof key) == KES_DONE, "no key is read");
-    printf("kes\t");
+    printf("kes2\t%d\t%d\t", H1, H2);
     print_hex(key, sizeof key);
 }
 
@@ -39,7 +39,7 @@ static void begin(void)
 static size_t write_line(unsigned long serial, unsigned long step, char message[MESSAGE_MAX])
 {
     unsigned long card = serial * 7919 % 10000, amount = 1 + serial * 104729 % 2000000;
-    int len = snprintf(message, MESSAGE_MAX, "111122223333%04lu%lu%lu", card, serial, amount);
+    int len = snprintf(message, MESSAGE_MAX, "111122223333%04lu\t%lu\t%lu", card, serial, amount);
     must(kes_sign(table, sizeof table, (uint8_t *)message, (size_t)len, signature, sizeof signature, &tally) == KES_DONE, "nothing is signed");
     printf("%lu\t111122223333%04lu\t%lu\t%lu\t", step, card, serial, amount);
     print_hex(signature, sizeof signature);

@@ -9,7 +9,7 @@
 #include "kes.h"
 #include "plain_kes.h"
 
-enum { LINE_MAX_SIZE = 2048, FIELDS = 5, CARD = 16, MESSAGE_MAX = CARD + 10 + 7, SHORT_HEIGHT = 6, CENTS_MAX = 2000000 };
+enum { LINE_MAX_SIZE = 2048, FIELDS = 5, CARD = 16, MESSAGE_MAX = CARD + 1 + 10 + 1 + 7, SHORT_HEIGHT = 6, CENTS_MAX = 2000000 };
 
 struct field {
     const char *text;
@@ -17,6 +17,7 @@ struct field {
 };
 
 struct header {
+    int tabs; /* whether they stand between the fields of a message: `kes2` */
     uint64_t h1, h2;
     uint8_t key[KES_KEY_SIZE];
 };
@@ -91,8 +92,9 @@ static int read_header(const char *line, size_t len, struct header *head)
 {
     struct field fields[FIELDS];
     size_t n = split(line, len, fields);
-    if ((n != 2 && n != 4) || fields[0].len != 3 || memcmp(fields[0].text, "kes", 3) != 0)
+    if ((n != 2 && n != 4) || fields[0].len < 3 || fields[0].len > 4 || memcmp(fields[0].text, "kes2", fields[0].len) != 0)
         return 0;
+    head->tabs = fields[0].len == 4;
     head->h1 = head->h2 = SHORT_HEIGHT;
     if (n == 4 && !(number(fields[1], 0, KES_HEIGHT_MAX, &head->h1) && number(fields[2], 0, KES_HEIGHT_MAX, &head->h2)))
         return 0;
@@ -107,7 +109,7 @@ static void add(struct entry *e, struct field f)
 
 static int read_entry(const struct header *head, const char *line, size_t len, struct entry *e)
 {
-    struct field f[FIELDS];
+    struct field f[FIELDS], gap = {"\t", (size_t)head->tabs};
     uint64_t card;
     if (split(line, len, f) != FIELDS || !number(f[0], 0, kes_steps(head->h1, head->h2) - 1, &e->step) || f[1].len != CARD
         || !digits(f[1], &card) || !number(f[2], 1, UINT32_MAX, &e->serial) || !number(f[3], 1, CENTS_MAX, &e->amount)
@@ -115,7 +117,9 @@ static int read_entry(const struct header *head, const char *line, size_t len, s
         return 0;
     e->message_len = 0;
     add(e, f[1]);
+    add(e, gap);
     add(e, f[2]);
+    add(e, gap);
     add(e, f[3]);
     return 1;
 }

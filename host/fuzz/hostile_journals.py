@@ -18,8 +18,8 @@ sys.dont_write_bytecode = True
 sys.path[:0] = [str(HOST / "test"), str(HOST / "model")]
 import corpus
 import kes
-from journal import LONGEST_LINE, Judge
-from journals import HEIGHTS, Day
+from journal import LONGEST_LINE, Judge, message
+from journals import HEIGHTS, WORDS, Day
 from journals import drawn as damaged
 from misread import MISREADINGS
 from mutate import spoiled
@@ -27,21 +27,21 @@ from rounds import Different, NoAnswer, main
 
 PROGRAM = HOST.parent / "build" / "journal"
 TIME_LIMIT = 20
-DAYS = [Day(random.Random(h1), h1, h2, 6, corpus.SCHEME) for h1, h2 in [*HEIGHTS, (6, 6)]]
+DAYS = [Day(random.Random(h1), h1, h2, 6, word, corpus.SCHEME) for h1, h2 in [*HEIGHTS, (6, 6)] for word in WORDS]
 NUMERALS = [b"", b"0", b"00", b"01", b"1", b"2", b"-1", b"+1", b" 1", b"1e3", b"12", b"13", b"2000000", b"2000001", b"4294967295", b"4294967296",
             b"18446744073709551615", b"18446744073709551616", b"9" * 30]
 # drawn too seldom to be noticed here; host/model/journal_cases.py has a journal for each
-SELDOM = ["step up to T", "step up to T - 2", "what follows 2048 bytes is a line", "fields of line 1 after the fourth are ignored",
+SELDOM = ["step up to T", "step up to T - 2", "what follows 2048 bytes is a line", "fields after the fifth are ignored", "fields of line 1 after the fourth are ignored",
           "tabs around and beside each other are one", "blanks part fields", "KES is kes"]
 BYTES = [b"\t", b"\n", b"\r", b"\r\n", b"\0", b" ", b"\xff", b"\t\t", b"\n\n"]
 
 
 def chosen(draw):
     """A journal of one line, at any heights, under a key that was chosen to fit the line's signature."""
-    h1, h2 = draw.randrange(kes.TALLEST + 1), draw.randrange(kes.TALLEST + 1)
+    word, h1, h2 = draw.choice(WORDS), draw.randrange(kes.TALLEST + 1), draw.randrange(kes.TALLEST + 1)
     step, card, amount = draw.randrange(kes.steps(h1, h2)), b"%016d" % draw.randrange(10**16), b"%d" % draw.randrange(1, 2_000_001)
-    signature, key = corpus.chosen(draw, h1, h2, step, card + b"1" + amount)
-    head = b"kes\t%d\t%d\t%s\n" % (h1, h2, key.hex().encode())
+    signature, key = corpus.chosen(draw, h1, h2, step, message(word, card, b"1", amount))
+    head = b"%s\t%d\t%d\t%s\n" % (word, h1, h2, key.hex().encode())
     return head + b"%d\t%s\t1\t%s\t%s\n" % (step, card, amount, signature.hex().encode())
 
 

@@ -1,4 +1,4 @@
-"""The top-up journal, judged a second time from the text of document 01, sharing no code."""
+"""The top-up journal, judged a second time from the text of documents 01 and 02, sharing no code."""
 import functools
 import re
 
@@ -7,6 +7,8 @@ from kes import DONE, TALLEST, signature_size, steps
 LONGEST_LINE = 2048
 LAST_LINE = 2**32 - 1
 SHORT_HEIGHTS = 6, 6
+# what stands between card, serial and amount where they are signed, by the word of line 1
+GAPS = {b"kes": b"", b"kes2": b"\t"}
 
 
 def number(text, low, high):
@@ -30,22 +32,27 @@ def cut_lines(data):
 
 
 def header(line):
-    """Heights and verification key of line 1, or None."""
+    """Word, heights and verification key of line 1, or None."""
     fields = line.split(b"\t") if line is not None else []
-    if len(fields) not in (2, 4) or fields[0] != b"kes":
+    if len(fields) not in (2, 4) or fields[0] not in GAPS:
         return None
     heights = SHORT_HEIGHTS if len(fields) == 2 else tuple(number(field, 0, TALLEST) for field in fields[1:3])
     key = unhex(fields[-1], 32)
-    return None if None in heights or key is None else (*heights, key)
+    return None if None in heights or key is None else (fields[0], *heights, key)
 
 
-def record(line, h1, h2):
+def message(word, card, serial, amount):
+    """What is signed of a record's fields below this word."""
+    return GAPS[word].join([card, serial, amount])
+
+
+def record(line, word, h1, h2):
     """Step, serial, amount, signed message and signature of a later line, or None."""
     fields = line.split(b"\t") if line is not None else []
     if len(fields) != 5:
         return None
     step, card, serial, amount, signature = fields
-    found = (number(step, 0, steps(h1, h2) - 1), number(serial, 1, 2**32 - 1), number(amount, 1, 2_000_000), card + serial + amount,
+    found = (number(step, 0, steps(h1, h2) - 1), number(serial, 1, 2**32 - 1), number(amount, 1, 2_000_000), message(word, card, serial, amount),
              unhex(signature, signature_size(h1, h2)))
     return found if re.fullmatch(rb"[0-9]{16}", card) and None not in found else None
 
@@ -66,11 +73,11 @@ class Judge:
         head = header(lines[0]) if lines else None
         if head is None:
             return b"1\tH\n"
-        h1, h2, key = head
+        word, h1, h2, _ = head
         last_step = last_serial = count = cents = 0
         out = []
         for n, line in zip(range(first, LAST_LINE + 1), lines[1:]):
-            found = record(line, h1, h2)
+            found = record(line, word, h1, h2)
             letter = self.letter(head, found, last_step, last_serial)
             if letter in self.counted:
                 last_step, last_serial, count, cents = found[0], found[1], count + 1, cents + found[2]
@@ -81,10 +88,10 @@ class Judge:
         """The first that applies: M, O, S, B, G."""
         if found is None:
             return "M"
-        step, serial, _, message, signature = found
+        step, serial, _, signed, signature = found
         if step < last_step:
             return "O"
         if serial != last_serial + 1:
             return "S"
-        h1, h2, key = head
-        return "G" if self.verify(h1, h2, key, step, message, signature) == DONE else "B"
+        _, h1, h2, key = head
+        return "G" if self.verify(h1, h2, key, step, signed, signature) == DONE else "B"

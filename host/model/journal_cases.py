@@ -2,7 +2,7 @@
 """Writes the journals that the program journal_cases reads and what it must write under the gate, from the model with the stand-in.
 With --check it writes nothing and says whether the files are those.
 
-Each group below is a sentence of document 01, "The top-up journal", and each case a name, the letters that the sentence gives its lines,
+Each group below is a sentence of document 01, "The top-up journal", or of document 02's CR 2, and each case a name, the letters that the sentence gives its lines,
 and the journal. The letters are the author's reading, the output is the model's: where the two differ, or where no case notices one of the
 misreadings of misread.py, nothing is written. Not run: that reading ends after line 4,294,967,295. A line of 2,048 bytes is M like one of
 2,049, since no record is longer than 2,030."""
@@ -18,8 +18,9 @@ from misread import MISREADINGS
 
 FOLDER = pathlib.Path(__file__).resolve().parents[2] / "crates" / "journal_cases"
 SCHEME = Scheme(Module(standin))
-# desks whose keys have 1, 8, 4,096 and 2^24 steps
+# desks whose keys have 1, 8, 4,096 and 2^24 steps, and two that write `kes2`
 ONE, EIGHT, SHORT, TALLEST = (Desk(SCHEME, h1, h2, range(32)) for h1, h2 in ((0, 0), (1, 2), (6, 6), (12, 12)))
+TABBED, TABBED_SHORT = (Desk(SCHEME, h1, h2, range(32), b"kes2") for h1, h2 in ((0, 0), (6, 6)))
 STEP, CARD, SERIAL, AMOUNT, SIGNATURE = range(5)
 GOOD = ONE.line()
 
@@ -138,12 +139,43 @@ def hexes():
 
 def messages():
     """The signed message is the digits of card, serial and amount, run together."""
-    ten = [ONE.line(serial=1, amount=12500)] + [ONE.line(serial=n) for n in range(2, 11)]
-    yield "digits-run-together", "G" * 11, under(ONE, *ten, changed(changed(ten[0], SERIAL, b"11"), AMOUNT, b"2500"))
+    yield "digits-run-together", "G" * 11, moved_digit(ONE)
     yield "signed-with-tabs", "BG", under(ONE, changed(GOOD, SIGNATURE, ONE.signature(0, b"\t".join(GOOD.split(b"\t")[1:4]))), GOOD)
     yield "forged-card", "BG", under(ONE, changed(GOOD, CARD, b"1111222233334445"), GOOD)
     yield "forged-serial", "GBG", under(ONE, GOOD, changed(GOOD, SERIAL, b"2"), ONE.line(serial=2))
     yield "forged-amount", "BG", under(ONE, changed(GOOD, AMOUNT, b"2501"), GOOD)
+
+
+def moved_digit(desk):
+    """Ten records, and then the first one's signature with a digit gone from its amount to its serial."""
+    ten = [desk.line(serial=1, amount=12500)] + [desk.line(serial=n) for n in range(2, 11)]
+    return under(desk, *ten, changed(changed(ten[0], SERIAL, b"11"), AMOUNT, b"2500"))
+
+
+def editions():
+    """CR 2: such journals start with `kes2`."""
+    last = steps(6, 6) - 1
+    yield "kes2-header-alone", "", under(TABBED)
+    yield "kes2-full", "GGSMG", under(TABBED, *(TABBED.line(serial=n) for n in (1, 2, 4)), TABBED.line(serial=3, amount=0), TABBED.line(serial=3))
+    yield "kes2-short", "GGM", ended(b"kes2\t" + TABBED_SHORT.key, TABBED_SHORT.line(0), TABBED_SHORT.line(last, serial=2), TABBED_SHORT.line(last + 1, serial=3, at=0))
+    yield "kes2-short-over-other-heights", "M", ended(b"kes2\t" + TABBED.key, TABBED.line())
+    yield "kes2-three-fields", "H", ended(b"kes2\t0\t" + TABBED.key, TABBED.line())
+    for name, word in ("upper", b"KES2"), ("1", b"kes1"), ("3", b"kes3"), ("22", b"kes22"), ("blank", b"kes 2"):
+        yield f"kes2-word-{name}", "H", ended(changed(TABBED.header, 0, word), TABBED.line())
+
+
+def tabbed_messages():
+    """CR 2: it shall be card, serial and amount, one tab between; a `kes` journal is still judged by the old text."""
+    line, signed = TABBED.line(), [b"1111222233334444", b"1", b"2500"]
+    others = b"".join(signed), b" ".join(signed), b"\t\t".join(signed), b"\t" + b"\t".join(signed), b"\t".join(signed) + b"\t"
+    one_tab = b"1111222233334444\t12500", b"11112222333344441\t2500"
+    yield "kes2-card-leading-zeros", "GG", under(TABBED, TABBED.line(card=b"0000222233334444"), TABBED.line(serial=2, card=b"0" * 16))
+    yield "kes2-signed-run-together", "BG", under(TABBED, changed(line, SIGNATURE, TABBED.signature(0, others[0])), line)
+    yield "kes2-signed-otherwise", "BBBBBBG", under(TABBED, *(changed(line, SIGNATURE, TABBED.signature(0, text)) for text in (*others[1:], *one_tab)), line)
+    yield "kes2-forged", "BBBG", under(TABBED, *(changed(line, at, text) for at, text in ((CARD, b"1111222233334445"), (AMOUNT, b"2501"), (AMOUNT, b"250"))), line)
+    yield "kes2-digit-moved", "G" * 10 + "B", moved_digit(TABBED)
+    yield "kes-line-below-kes2", "BG", under(TABBED, GOOD, line)
+    yield "kes2-line-below-kes", "BG", under(ONE, line, GOOD)
 
 
 def letters():
@@ -219,7 +251,7 @@ def example():
 
 SENTENCES = [
     lines_of_text, headers, short_headers, other_lines, numbers, hexes, messages, letters, malformed, steps_below, other_serials,
-    not_accepted, first_that_applies, wrong_headers, totals, example,
+    not_accepted, first_that_applies, wrong_headers, totals, example, editions, tabbed_messages,
 ]
 JUDGE = Judge(SCHEME)
 CASES = [case for sentence in SENTENCES for case in sentence()]

@@ -1,4 +1,5 @@
-"""Misreadings of document 01's "The top-up journal", each planted in the model, so that cases can show that they notice it."""
+"""Misreadings of document 01's "The top-up journal" and of document 02's CR 2, each planted in the model, so that cases can show that they
+notice it."""
 import operator
 import re
 from unittest.mock import patch
@@ -33,14 +34,24 @@ def card(change):
     return made_over("record", lambda line: re.sub(rb"(?<=\t)[0-9]*", lambda field: change(field[0]), line, count=1))
 
 
+def words(change):
+    """The first field of line 1 made over."""
+    return made_over("header", lambda line: b"\t".join([change(line.split(b"\t")[0]), *line.split(b"\t")[1:]]))
+
+
+def tabbed(change):
+    """What is signed below `kes2` made over."""
+    return planted("message", lambda right, word, *fields: change(right(word, *fields)) if word == b"kes2" else right(word, *fields))
+
+
 def letters(order="OSB", below=operator.lt, follows=lambda serial, last: serial == last + 1):
     """The tests of a well-formed line in this order."""
     def letter(judge, head, found, last_step, last_serial):
         if found is None:
             return "M"
-        h1, h2, key = head
-        step, serial, _, message, signature = found
-        refused = judge.verify(h1, h2, key, step, message, signature) != journal.DONE
+        _, h1, h2, key = head
+        step, serial, _, signed, signature = found
+        refused = judge.verify(h1, h2, key, step, signed, signature) != journal.DONE
         fails = {"O": below(step, last_step), "S": not follows(serial, last_serial), "B": refused}
         return next((case for case in order if fails[case]), "G")
     return patch.object(journal.Judge, "letter", letter)
@@ -80,6 +91,20 @@ MISREADINGS = {
     "tabs around and beside each other are one": made_over("record", lambda line: re.sub(rb"\t+", b"\t", line.strip(b"\t"))),
     "blanks part fields": made_over("record", lambda line: line.replace(b" ", b"\t")),
     "KES is kes": made_over("header", lambda line: re.sub(rb"\AKES\b", b"kes", line)),
+    "KES2 is kes2": words(lambda word: word.lower() if word == b"KES2" else word),
+    "kes22 is kes2": words(lambda word: word[:4]),
+    "kes1 is kes": words(lambda word: b"kes" if word == b"kes1" else word),
+    "kes3 is kes2": words(lambda word: b"kes2" if word == b"kes3" else word),
+    "kes 2 is kes2": words(lambda word: word.replace(b" ", b"")),
+    "kes2 is unknown": words(lambda word: b"" if word == b"kes2" else word),
+    "kes2 needs four fields": made_over("header", lambda line: b"" if re.fullmatch(rb"kes2\t[^\t]*", line) else line),
+    "kes2 is judged by the old text": patch.dict(journal.GAPS, {b"kes2": b""}),
+    "kes is judged by the new text": patch.dict(journal.GAPS, {b"kes": b"\t"}),
+    "a blank stands between": patch.dict(journal.GAPS, {b"kes2": b" "}),
+    "one tab is left out": tabbed(lambda signed: b"".join(signed.rsplit(b"\t", 1))),
+    "a tab stands before the card": tabbed(lambda signed: b"\t" + signed),
+    "a tab stands after the amount": tabbed(lambda signed: signed + b"\t"),
+    "leading zeros of the card are not signed": tabbed(lambda signed: signed.lstrip(b"0")),
     "the short header means heights 0 and 0": patch.object(journal, "SHORT_HEIGHTS", (0, 0)),
     "S before O": letters("SOB"),
     "B before S": letters("OBS"),

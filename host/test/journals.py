@@ -18,13 +18,14 @@ from journal import Judge
 
 SCHEME = kes.Scheme(kes.Module(ed25519))
 HEIGHTS = [(0, 0), (1, 2), (2, 1)]
+WORDS = [b"kes", b"kes2"]
 
 
 class Day:
     """A key, its header line, and the lines of its day: serials from 1 on, each signed at a step that never falls."""
 
-    def __init__(self, draw, h1, h2, lines, scheme=SCHEME):
-        desk = Desk(scheme, h1, h2, draw.randbytes(32))
+    def __init__(self, draw, h1, h2, lines, word, scheme=SCHEME):
+        desk = Desk(scheme, h1, h2, draw.randbytes(32), word)
         self.header = desk.header
         self.lines = []
         for serial in range(1, lines + 1):
@@ -70,7 +71,9 @@ def drawn(draw, days):
     day = draw.choice(days)
     lines = [day.header] + day.lines[: draw.choice([len(day.lines), draw.randrange(len(day.lines) + 1)])]
     if draw.random() < 0.1:
-        lines[0] = b"kes\t" + day.header.split(b"\t")[-1]
+        lines[0] = b"\t".join(day.header.split(b"\t")[::3])
+    if draw.random() < 0.1:
+        lines[0] = b"\t".join([draw.choice([*WORDS, b"KES2", b"kes1", b"kes3", b"kes22", b"kes 2"]), *lines[0].split(b"\t")[1:]])
     if draw.random() < 0.1:
         lines[1:] = draw.sample(lines[1:], len(lines) - 1)
     for _ in range(draw.choice([0, 1, 1, 1, 2, 3])):
@@ -84,7 +87,7 @@ def main():
     count = int(sys.argv[2]) if len(sys.argv) > 2 else 1000
     program = sys.argv[3] if len(sys.argv) > 3 else ROOT / "build" / "journal"
     began, draw, judge, seen = time.time(), random.Random(seed), Judge(SCHEME), {}
-    days = [Day(draw, h1, h2, 6) for h1, h2 in HEIGHTS]
+    days = [Day(draw, h1, h2, 6, word) for h1, h2 in HEIGHTS for word in WORDS]
     for n in range(count):
         data = drawn(draw, days)
         wrote = subprocess.run([program], input=data, stdout=subprocess.PIPE, check=True).stdout

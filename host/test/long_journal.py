@@ -14,9 +14,10 @@ sys.dont_write_bytecode = True
 sys.path.insert(0, str(ROOT / "host" / "model"))
 import ed25519
 import kes
-from journal import SHORT_HEIGHTS as HEIGHTS, Judge
+from journal import Judge, message
 from library import MAKE, MOVE, READ_KEY, SIGN, Library
 
+HEIGHTS = 6, 6
 PAGES = 256  # KiB: the kernel counts a process's pages in batches
 
 
@@ -27,7 +28,7 @@ class Desk:
         self.library, self.lines = library, lines
         _, _, (_, self.table, _) = library.call(MAKE, *HEIGHTS, 0, [bytes(range(32)), bytes(kes.table_size(*HEIGHTS)), b""])
         _, _, (_, key, _) = library.call(READ_KEY, 0, 0, 0, [self.table, bytes(32), b""])
-        self.header = b"kes\t%s\n" % key.hex().encode()
+        self.header = b"kes2\t%d\t%d\t%s\n" % (*HEIGHTS, key.hex().encode())
         self.step = self.cents = 0
 
     def fields(self, serial):
@@ -38,8 +39,8 @@ class Desk:
             self.step = step
         card, amount = b"%016d" % (serial * 7919), b"%d" % (serial % 2_000_000 + 1)
         self.cents += int(amount)
-        message, room = card + b"%d" % serial + amount, bytes(kes.signature_size(*HEIGHTS))
-        _, _, (_, _, signature) = self.library.call(SIGN, 0, 0, 0, [self.table, message, room])
+        signed, room = message(b"kes2", card, b"%d" % serial, amount), bytes(kes.signature_size(*HEIGHTS))
+        _, _, (_, _, signature) = self.library.call(SIGN, 0, 0, 0, [self.table, signed, room])
         return [b"%d" % self.step, card, b"%d" % serial, amount, signature.hex().encode()]
 
 

@@ -2,7 +2,8 @@
 use mathlib.Core.Path.{_≡_, refl, sym, ap, _∙_}
 use mathlib.Core.List.{List, [], _∷_}
 use mathlib.Core.Bool.{true, false}
-use Prim.Native.Nat.{ℕ}
+use Prim.Native.Nat.{ℕ, suc}
+use lib.Dec.{eqb}
 use lib.ListN.{length}
 use Rattle.fields.specs.Tests.{same}
 use Rattle.text.specs.Numerals.{numberIn}
@@ -12,8 +13,11 @@ use Rattle.text.proofs.Nibbles.{full-hex, other-hex}
 use Rattle.text.specs.declared.Number.the-variants.{Value, Bad}
 use Rattle.text.specs.declared.Decoded.{Decoded}
 use Rattle.text.specs.declared.Decoded.the-variants.{Full, Other}
+use Rattle.records.specs.declared.Edition.{Edition}
+use Rattle.records.specs.declared.Edition.the-variants.{Plain, Tabbed}
+use Rattle.records.specs.declared.reading.Word.the-variants.{Says, Unknown}
 use Rattle.records.specs.declared.Answer.the-variants.{Right}
-use Rattle.records.specs.FirstLine.{wrong, kes, headWith, headIn, headed}
+use Rattle.records.specs.FirstLine.{wrong, wordOf, editionIn, headWith, headIn, headed}
 use Rattle.records.specs.Splitting.{OtherFields}
 
 pub head-other : (fs : List (List ℕ)) → OtherFields fs → headIn fs ≡ wrong
@@ -29,53 +33,66 @@ pub head-five : {fs : List (List ℕ)} {a b c d e : List ℕ} → fs ≡ a ∷ b
 unfolding headIn
 head-five p = ap headIn p
 
--- a word of another length is not `kes`
-pub not-kes : (word : List ℕ) → (length word ≡ 3 → ⊥) → same word kes ≡ false
-unfolding same kes
-not-kes [] h = refl
-not-kes (a ∷ []) h = simp and-false
-not-kes (a ∷ b ∷ []) h = simp and-false
-not-kes (a ∷ b ∷ c ∷ []) h = absurd (h refl)
-not-kes (a ∷ b ∷ c ∷ d ∷ r) h = simp and-false
+-- a word of another length is another word
+pub other-length : (word known : List ℕ) → (length word ≡ length known → ⊥) → same word known ≡ false
+unfolding same
+other-length [] [] h = absurd (h refl)
+other-length [] (y ∷ ys) h = refl
+other-length (x ∷ xs) [] h = refl
+other-length (x ∷ xs) (y ∷ ys) h = rw (other-length xs ys (λ e. h (ap suc e))) (and-false (eqb x y))
+
+module _ (word : List ℕ) where
+  pub says-plain : same word (wordOf Plain) ≡ true → editionIn word ≡ Says Plain
+  unfolding editionIn
+  says-plain p = rw p
+
+  module _ (n : same word (wordOf Plain) ≡ false) where
+    pub says-tabbed : same word (wordOf Tabbed) ≡ true → editionIn word ≡ Says Tabbed
+    unfolding editionIn
+    says-tabbed t = rw (n, t)
+
+    pub says-none : same word (wordOf Tabbed) ≡ false → editionIn word ≡ Unknown
+    unfolding editionIn
+    says-none t = rw (n, t)
 
 module _ {fs : List (List ℕ)} {word key : List ℕ} (are : fs ≡ word ∷ key ∷ []) where
-  pub short-not : same word kes ≡ false → headIn fs ≡ wrong
+  pub short-not : editionIn word ≡ Unknown → headIn fs ≡ wrong
   unfolding headIn
   short-not k = ap headIn are ∙ rw k
 
-  pub short-is : same word kes ≡ true → headIn fs ≡ headWith 6 6 key
+  pub short-is : {e : Edition} → editionIn word ≡ Says e → headIn fs ≡ headWith e 6 6 key
   unfolding headIn
   short-is k = ap headIn are ∙ rw k
 
 module _ {fs : List (List ℕ)} {word a b key : List ℕ} (are : fs ≡ word ∷ a ∷ b ∷ key ∷ []) where
-  pub full-not : same word kes ≡ false → headIn fs ≡ wrong
+  pub full-not : editionIn word ≡ Unknown → headIn fs ≡ wrong
   unfolding headIn
   full-not k = ap headIn are ∙ rw k
 
-  module _ (k : same word kes ≡ true) where
+  module _ {e : Edition} (k : editionIn word ≡ Says e) where
     pub full-first : numberIn 0 12 a ≡ Bad → headIn fs ≡ wrong
     unfolding headIn
-    full-first e = ap headIn are ∙ rw (k, e)
+    full-first n = ap headIn are ∙ rw (k, n)
 
     module _ {h1 : ℕ} (e1 : numberIn 0 12 a ≡ Value h1) where
       pub full-second : numberIn 0 12 b ≡ Bad → headIn fs ≡ wrong
       unfolding headIn
-      full-second e = ap headIn are ∙ rw (k, e1, e)
+      full-second n = ap headIn are ∙ rw (k, e1, n)
 
-      pub full-is : {h2 : ℕ} → numberIn 0 12 b ≡ Value h2 → headIn fs ≡ headWith h1 h2 key
+      pub full-is : {h2 : ℕ} → numberIn 0 12 b ≡ Value h2 → headIn fs ≡ headWith e h1 h2 key
       unfolding headIn
-      full-is e = ap headIn are ∙ rw (k, e1, e)
+      full-is n = ap headIn are ∙ rw (k, e1, n)
 
-module _ (h1 h2 : ℕ) {hex zeros key : List ℕ} {r : Decoded} (l : length zeros ≡ 32) (u : Unhexes hex zeros r key) where
-  pub head-right : r ≡ Full → record { answer = Right; header = record { h1 = h1; h2 = h2; key = key } } ≡ headed (headWith h1 h2 hex)
+module _ (e : Edition) (h1 h2 : ℕ) {hex zeros key : List ℕ} {r : Decoded} (l : length zeros ≡ 32) (u : Unhexes hex zeros r key) where
+  pub head-right : r ≡ Full → record { answer = Right; header = record { edition = e; h1 = h1; h2 = h2; key = key } } ≡ headed (headWith e h1 h2 hex)
   unfolding headWith headed
-  head-right e =
-      let f = full-hex u e in
+  head-right d =
+      let f = full-hex u d in
       let g : isHexOf 32 hex ≡ true = ap (λ (n : ℕ). isHexOf n hex) (sym l) ∙ f .0 in
       rw (g, f .1)
 
-  pub head-wrong : r ≡ Other → headed wrong ≡ headed (headWith h1 h2 hex)
+  pub head-wrong : r ≡ Other → headed wrong ≡ headed (headWith e h1 h2 hex)
   unfolding headWith
-  head-wrong e =
-      let g : isHexOf 32 hex ≡ false = ap (λ (n : ℕ). isHexOf n hex) (sym l) ∙ other-hex u e .0 in
+  head-wrong d =
+      let g : isHexOf 32 hex ≡ false = ap (λ (n : ℕ). isHexOf n hex) (sym l) ∙ other-hex u d .0 in
       rw g

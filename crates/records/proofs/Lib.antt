@@ -3,3 +3,4 @@ pub mod Heading
 pub mod Recording
 pub mod Ranges
 pub mod Message
+pub mod Apart

@@ -1,23 +1,28 @@
--- The signed message of a record that was read is its line's card, serial and amount, run together as they stand there.
-use mathlib.Core.Path.{_≡_}
-use mathlib.Core.List.{List, [], _∷_, _++_}
+-- The signed message of a record that was read is made of its line's card, serial and amount as they stand there: run together, or,
+-- with tabs between, the very bytes of the line from the card to the amount.
+use mathlib.Core.Path.{_≡_, sym, ap, _∙_}
+use mathlib.Core.List.{List, [], _∷_, _++_, append-assoc}
 use Prim.Native.Nat.{ℕ, _-_}
 use native.Mathlib.Omega.{arith}
 use lib.Dec.{eqb}
 use lib.ListN.{length}
 use borrow.Author.Tests.{eqb-true}
 use Rattle.text.specs.Digits.{padded}
+use Rattle.text.specs.Fields.{fields}
 use Rattle.text.specs.Hex.{isHexOf, bytesOf}
 use Rattle.text.specs.Numerals.{numberIn, digitsUpTo}
 use Rattle.text.proofs.Back.{number-back, digits-back}
+use Rattle.text.proofs.Cuts.{withTabs, rejoined}
 use Rattle.text.proofs.Reading.{picked}
 use Rattle.text.specs.declared.Number.the-variants.{Value}
 use Rattle.rules.specs.Table.{steps, signatureSize}
+use Rattle.records.specs.declared.Edition.{Edition}
+use Rattle.records.specs.declared.Edition.the-variants.{Tabbed}
 use Rattle.records.specs.declared.Header.{Header}
 use Rattle.records.specs.declared.Record.{Record}
 use Rattle.records.specs.declared.Entry.{Entry}
 use Rattle.records.specs.declared.Entry.the-variants.{WellFormed, IllFormed}
-use Rattle.records.specs.Records.{cardIn, numbersIn, malformed, signed, signedIn, recordIn, message}
+use Rattle.records.specs.Records.{cardIn, numbersIn, malformed, signed, signedIn, recordIn, gap, message}
 use Rattle.records.proofs.Ranges.{given-some, chosen, ill-not}
 
 malformed-not : {r : Record} {s : List ℕ} → malformed ≡ signed r s → ⊥
@@ -36,9 +41,13 @@ card-back s {c} e =
     let n : length s ≡ 16 = eqb-true (length s) 16 (p .0) in
     rw (← n) (digits-back 9999999999999999 s (p .1))
 
-numbers-message : (h : Header) (step card serial amount : List ℕ) {r : Record} → numbersIn h step card serial amount ≡ WellFormed r → message r ≡ card ++ (serial ++ amount)
+-- the fields, with what this edition puts between
+abbrev pub spelt : Edition → List ℕ → List ℕ → List ℕ → List ℕ
+spelt v card serial amount = card ++ (gap v ++ (serial ++ (gap v ++ amount)))
+
+numbers-message : (v : Edition) (h : Header) (step card serial amount : List ℕ) {r : Record} → numbersIn h step card serial amount ≡ WellFormed r → message v r ≡ spelt v card serial amount
 unfolding numbersIn message
-numbers-message h step card serial amount {r} e =
+numbers-message v h step card serial amount {r} e =
     let t = given-some IllFormed (numberIn 0 (steps (h .h1) (h .h2) - 1) step) _ ill-not e in
     let c = given-some IllFormed (cardIn card) _ ill-not (t .so) in
     let n = given-some IllFormed (numberIn 1 4294967295 serial) _ ill-not (c .so) in
@@ -47,8 +56,16 @@ numbers-message h step card serial amount {r} e =
     let q : _≡_ {A = Record} (record { step = t .value; card = c .value; serial = n .value; amount = a .value }) r = cc in
     rw (← q) (rw (card-back card (c .is), number-back 1 4294967295 serial (omega arith) (n .is), number-back 1 2000000 amount (omega arith) (a .is)))
 
-pub message-fields : (h : Header) (step card serial amount hex : List ℕ) {r : Record} {s : List ℕ}
-    → recordIn h (step ∷ card ∷ serial ∷ amount ∷ hex ∷ []) ≡ signed r s → message r ≡ card ++ (serial ++ amount)
+pub message-fields : (v : Edition) (h : Header) (step card serial amount hex : List ℕ) {r : Record} {s : List ℕ}
+    → recordIn h (step ∷ card ∷ serial ∷ amount ∷ hex ∷ []) ≡ signed r s → message v r ≡ spelt v card serial amount
 unfolding recordIn
-message-fields h step card serial amount hex p =
-    numbers-message h step card serial amount (entry-of h (numbersIn h step card serial amount) hex p)
+message-fields v h step card serial amount hex p =
+    numbers-message v h step card serial amount (entry-of h (numbersIn h step card serial amount) hex p)
+
+-- BYTE FOR BYTE: a line is its step, a tab, the new message, a tab, its signature
+pub message-stands : (h : Header) (l step card serial amount hex : List ℕ) {r : Record} {s : List ℕ}
+    → fields l ≡ step ∷ card ∷ serial ∷ amount ∷ hex ∷ [] → recordIn h (fields l) ≡ signed r s → l ≡ step ++ (9 ∷ (message Tabbed r ++ (9 ∷ hex)))
+unfolding withTabs
+message-stands h l step card serial amount hex {r} {s} are p =
+    let m = message-fields Tabbed h step card serial amount hex (ap (recordIn h) (sym are) ∙ p) in
+    sym (rejoined l) ∙ ap withTabs are ∙ rw m (simp append-assoc)

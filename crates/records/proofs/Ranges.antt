@@ -7,18 +7,21 @@ use Prim.Native.Nat.{ℕ, _-_, _≤_}
 use native.Mathlib.Omega.{arith}
 use lib.Dec.{eqb}
 use lib.ListN.{length}
-use Rattle.fields.specs.Tests.{pick, same}
+use Rattle.fields.specs.Tests.{pick}
 use Rattle.text.specs.Hex.{isHexOf, bytesOf}
 use Rattle.text.specs.Numerals.{numberIn, digitsUpTo, given}
 use Rattle.text.proofs.Reading.{picked, digits-within, within}
 use Rattle.text.specs.declared.Number.{Number}
 use Rattle.text.specs.declared.Number.the-variants.{Value, Bad}
 use Rattle.rules.specs.Table.{steps, signatureSize}
+use Rattle.records.specs.declared.Edition.{Edition}
+use Rattle.records.specs.declared.reading.Word.{Word}
+use Rattle.records.specs.declared.reading.Word.the-variants.{Says, Unknown}
 use Rattle.records.specs.declared.Header.{Header}
 use Rattle.records.specs.declared.Record.{Record}
 use Rattle.records.specs.declared.Entry.{Entry}
 use Rattle.records.specs.declared.Entry.the-variants.{WellFormed, IllFormed}
-use Rattle.records.specs.FirstLine.{right, wrong, kes, headWith, headIn, Fits}
+use Rattle.records.specs.FirstLine.{right, wrong, editionIn, said, headWith, headIn, Fits}
 use Rattle.records.specs.Records.{cardIn, numbersIn, Found, malformed, signed, signedIn, recordIn, InRange}
 
 -- a number was given
@@ -31,6 +34,16 @@ pub given-some : {A : Type 0} (other : A) (n : Number) (f : ℕ → A) {x : A} �
 given-some other Bad f never e = absurd (never e)
 given-some other (Value v) f never e = record { value = v; is = refl; so = e }
 
+-- an edition was said
+pub record Told {A : Type 0} (w : Word) (f : Edition → A) (x : A) : Type 0 where
+  pub edition : Edition
+  pub is : w ≡ Says edition
+  pub so : f edition ≡ x
+
+pub said-some : {A : Type 0} (other : A) (w : Word) (f : Edition → A) {x : A} → (other ≡ x → ⊥) → said other w f ≡ x → Told w f x
+said-some other Unknown f never e = absurd (never e)
+said-some other (Says v) f never e = record { edition = v; is = refl; so = e }
+
 pub chosen : {A : Type 0} (t : Bool) (x y : A) {z : A} → (y ≡ z → ⊥) → pick t x y ≡ z → x ≡ z
 chosen true x y never e = e
 chosen false x y never e = absurd (never e)
@@ -39,23 +52,26 @@ chosen false x y never e = absurd (never e)
 wrong-not : {h : Header} → wrong ≡ right h → ⊥
 wrong-not e = let z : _≡_ {A = ℕ} 0 1 = cc in omega arith
 
-with-fits : (h1 h2 : ℕ) (key : List ℕ) {h : Header} → h1 ≤ 12 → h2 ≤ 12 → headWith h1 h2 key ≡ right h → Fits h
+with-fits : (v : Edition) (h1 h2 : ℕ) (key : List ℕ) {h : Header} → h1 ≤ 12 → h2 ≤ 12 → headWith v h1 h2 key ≡ right h → Fits h
 unfolding headWith
-with-fits h1 h2 key {h} a b e =
-    let p = chosen (isHexOf 32 key) (right (record { h1 = h1; h2 = h2; key = bytesOf key })) wrong wrong-not e in
-    let q : _≡_ {A = Header} (record { h1 = h1; h2 = h2; key = bytesOf key }) h = cc in
+with-fits v h1 h2 key {h} a b e =
+    let p = chosen (isHexOf 32 key) (right (record { edition = v; h1 = h1; h2 = h2; key = bytesOf key })) wrong wrong-not e in
+    let q : _≡_ {A = Header} (record { edition = v; h1 = h1; h2 = h2; key = bytesOf key }) h = cc in
     subst Fits q (record { first = a; second = b })
 
 pub head-fits : (fs : List (List ℕ)) {h : Header} → headIn fs ≡ right h → Fits h
 unfolding headIn
 head-fits [] e = absurd (wrong-not e)
 head-fits (a ∷ []) e = absurd (wrong-not e)
-head-fits (word ∷ key ∷ []) e = with-fits 6 6 key (omega arith) (omega arith) (chosen (same word kes) (headWith 6 6 key) wrong wrong-not e)
+head-fits (word ∷ key ∷ []) e =
+    let told = said-some wrong (editionIn word) _ wrong-not e in
+    with-fits (told .edition) 6 6 key (omega arith) (omega arith) (told .so)
 head-fits (a ∷ b ∷ c ∷ []) e = absurd (wrong-not e)
 head-fits (word ∷ a ∷ b ∷ key ∷ []) e =
-    let first = given-some wrong (numberIn 0 12 a) _ wrong-not (chosen (same word kes) _ wrong wrong-not e) in
+    let told = said-some wrong (editionIn word) _ wrong-not e in
+    let first = given-some wrong (numberIn 0 12 a) _ wrong-not (told .so) in
     let second = given-some wrong (numberIn 0 12 b) _ wrong-not (first .so) in
-    with-fits (first .value) (second .value) key (within 0 12 a (first .is) .1) (within 0 12 b (second .is) .1) (second .so)
+    with-fits (told .edition) (first .value) (second .value) key (within 0 12 a (first .is) .1) (within 0 12 b (second .is) .1) (second .so)
 head-fits (a ∷ b ∷ c ∷ d ∷ f ∷ r) e = absurd (wrong-not e)
 
 -- RECORDS

@@ -1,4 +1,5 @@
 -- The record of a later line. Document 01, "The top-up journal": "step, card (16 digits), serial (1 to 4,294,967,295), amount in cents (1 to 2,000,000), signature".
+-- Document 02, CR 2, for journals of the word `kes2`: the message "shall be card, serial and amount, one tab between".
 use mathlib.Core.Path.{_≡_}
 use mathlib.Core.List.{List, [], _∷_, _++_}
 use Prim.Native.Nat.{ℕ, _-_, _≤_}
@@ -11,6 +12,8 @@ use Rattle.text.specs.Digits.{decimal, padded}
 use Rattle.text.specs.declared.Number.{Number}
 use Rattle.text.specs.declared.Number.the-variants.{Bad}
 use Rattle.rules.specs.Table.{steps, signatureSize}
+use Rattle.records.specs.declared.Edition.{Edition}
+use Rattle.records.specs.declared.Edition.the-variants.{Plain, Tabbed}
 use Rattle.records.specs.declared.Header.{Header}
 use Rattle.records.specs.declared.Record.{Record}
 use Rattle.records.specs.declared.Entry.{Entry}
@@ -69,6 +72,11 @@ pub record Reads (found : Found) (room : List ℕ) (r : Entry) (room′ : List �
   pub answers : r ≡ entryOf found
   pub leaves : room′ ≡ signatureOf found room
 
--- THE SIGNED MESSAGE: "the digits of card, serial and amount, run together"
-unfoldable pub message : Record → List ℕ
-message r = padded 16 (r .card) ++ (decimal (r .serial) ++ decimal (r .amount))
+-- what stands between card, serial and amount: "run together", or "one tab between"
+abbrev pub gap : Edition → List ℕ
+gap Plain = []
+gap Tabbed = 9 ∷ []
+
+-- THE SIGNED MESSAGE of each edition
+unfoldable pub message : Edition → Record → List ℕ
+message e r = padded 16 (r .card) ++ (gap e ++ (decimal (r .serial) ++ (gap e ++ decimal (r .amount))))

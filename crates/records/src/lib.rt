@@ -6,8 +6,15 @@ pub use reading::no_header;
 pub use reading::read_header;
 pub use reading::read_record;
 
+// The word of line 1, by which the signed message goes: `kes`, its digits run together, or `kes2`, with tabs between.
+pub enum Edition {
+    Plain,
+    Tabbed,
+}
+
 // What line 1 says.
 pub struct Header {
+    pub edition: Edition,
     pub h1: u64,
     pub h2: u64,
     pub key: [u8; 32],

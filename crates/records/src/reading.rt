@@ -5,10 +5,11 @@ ghost use lib.ListN.{length};
 ghost use Rattle.fields.specs.Tests.{same};
 ghost use Rattle.text.specs.Fields.{fields};
 ghost use Rattle.rules.specs.Table.{steps, signatureSize};
-ghost use Rattle.records.specs.FirstLine.{kes, wrong, headWith, headIn, noHeader, headed, Fits};
+ghost use Rattle.records.specs.FirstLine.{editionIn, wrong, headWith, headIn, noHeader, headed, Fits};
 ghost use Rattle.records.specs.Records.{cardIn, numbersIn, recordIn, Reads};
 ghost use Rattle.records.specs.Splitting.{TwoFields, FourFields, FiveFields};
 use crate::Answer;
+use crate::Edition;
 use crate::Entry;
 use crate::Headed;
 use crate::Header;
@@ -20,21 +21,41 @@ use text::Number;
 use text::read_digits;
 use text::read_number;
 
-fn is_kes(word: &[u8]) -> bool
-    ensures { λ r. ⌜ r ≡ same (now (word .entry)) kes ⌝ }
-{
-    if word.len() != 3 {
-        return false;
-    }
-    let kes = [107u8, 101, 115];
-    fields::equal(word, &kes)
+// What the first field of line 1 says.
+pub enum Word {
+    Says(Edition),
+    Unknown,
 }
 
-// All zeros, where there is no header.
+fn is_word(word: &[u8], known: &[u8]) -> bool
+    ensures { λ r. ⌜ r ≡ same (now (word .entry)) (now (known .entry)) ⌝ }
+{
+    if word.len() != known.len() {
+        return false;
+    }
+    fields::equal(word, known)
+}
+
+fn read_edition(word: &[u8]) -> Word
+    ensures { λ r. ⌜ r ≡ editionIn (now (word .entry)) ⌝ }
+{
+    let plain = is_word(word, b"kes");
+    if plain {
+        return Word::Says(Edition::Plain);
+    }
+    let tabbed = is_word(word, b"kes2");
+    if tabbed {
+        return Word::Says(Edition::Tabbed);
+    }
+    Word::Unknown
+}
+
+// What stands where there is no header.
 pub fn no_header() -> Header
     ensures { λ r. ⌜ r ≡ noHeader ⌝ }
 {
     Header {
+        edition: Edition::Plain,
         h1: 0,
         h2: 0,
         key: [0; 32],
@@ -50,8 +71,8 @@ fn wrong() -> Headed
     }
 }
 
-fn head_with(h1: u64, h2: u64, hex: &[u8]) -> Headed
-    ensures { λ r. ⌜ r ≡ headed (headWith h1 h2 (now (hex .entry))) ⌝ }
+fn head_with(edition: Edition, h1: u64, h2: u64, hex: &[u8]) -> Headed
+    ensures { λ r. ⌜ r ≡ headed (headWith edition h1 h2 (now (hex .entry))) ⌝ }
 {
     let mut key = [0u8; 32];
     let Decoded::Full = text::unhex(hex, &mut key) else {
@@ -59,7 +80,12 @@ fn head_with(h1: u64, h2: u64, hex: &[u8]) -> Headed
     };
     Headed {
         answer: Answer::Right,
-        header: Header { h1, h2, key },
+        header: Header {
+            edition,
+            h1,
+            h2,
+            key,
+        },
     }
 }
 
@@ -67,22 +93,20 @@ fn short_header(line: &[u8], a: usize) -> Headed
     requires { ⌜ TwoFields (now line) a ⌝ }
     ensures { λ r. ⌜ r ≡ headed (headIn (fields (now (line .entry)))) ⌝ }
 {
-    let kes = is_kes(&line[0..a]);
-    if !kes {
+    let Word::Says(edition) = read_edition(&line[0..a]) else {
         return wrong();
-    }
+    };
     let start = a + 1;
-    head_with(6, 6, &line[start..line.len()])
+    head_with(edition, 6, 6, &line[start..line.len()])
 }
 
 fn full_header(line: &[u8], a: usize, b: usize, c: usize) -> Headed
     requires { ⌜ FourFields (now line) a b c ⌝ }
     ensures { λ r. ⌜ r ≡ headed (headIn (fields (now (line .entry)))) ⌝ }
 {
-    let kes = is_kes(&line[0..a]);
-    if !kes {
+    let Word::Says(edition) = read_edition(&line[0..a]) else {
         return wrong();
-    }
+    };
     let first = a + 1;
     let Number::Value(h1) = read_number(&line[first..b], 0, 12) else {
         return wrong();
@@ -92,7 +116,7 @@ fn full_header(line: &[u8], a: usize, b: usize, c: usize) -> Headed
         return wrong();
     };
     let start = c + 1;
-    head_with(h1, h2, &line[start..line.len()])
+    head_with(edition, h1, h2, &line[start..line.len()])
 }
 
 // What line 1 says.

@@ -13,7 +13,7 @@ use Rattle.verdicts.specs.declared.Judged.the-variants.{Malformed, StepB
 use Rattle.records.specs.Records.{Found, malformed, signed, message}
 use Rattle.verdicts.specs.Judging.{isAccepted, accepts, caseOf}
 
-pub accepts-by : (h : Header) (r : Record) (s : List ℕ) {m : List ℕ} {v w : Verdict} → m ≡ message r → v ≡ verifyOutcome (h .h1) (h .h2) (h .key) (r .step) m s .answer → v ≡ w → isAccepted w ≡ accepts h r s
+pub accepts-by : (h : Header) (r : Record) (s : List ℕ) {m : List ℕ} {v w : Verdict} → m ≡ message (h .edition) r → v ≡ verifyOutcome (h .h1) (h .h2) (h .key) (r .step) m s .answer → v ≡ w → isAccepted w ≡ accepts h r s
 unfolding accepts
 accepts-by h r s em ev ew = ap isAccepted (sym ew ∙ ev) ∙ rw em
 

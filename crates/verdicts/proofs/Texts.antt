@@ -6,17 +6,24 @@ use native.Mathlib.Omega.{arith}
 use lib.ListN.{length, length-append}
 use Rattle.text.specs.Digits.{decimal, padded, Puts}
 use Rattle.text.proofs.Writing.{puts-then, decimal-length, padded-length}
+use Rattle.records.specs.declared.Edition.{Edition}
+use Rattle.records.specs.declared.Edition.the-variants.{Plain, Tabbed}
 use Rattle.records.specs.declared.Record.{Record}
 use Rattle.verdicts.specs.declared.Books.{Books}
 use Rattle.verdicts.specs.declared.Judged.{Judged}
-use Rattle.records.specs.Records.{message}
+use Rattle.records.specs.Records.{gap, message}
 use Rattle.verdicts.specs.Printing.{letterOf, verdictLine, totalLine}
 
-pub puts-message : (r : Record) {d d₁ d₂ d₃ : List ℕ} {a b e : ℕ} → 0 ≤ length d → Puts d 0 (padded 16 (r .card)) a d₁
-    → Puts d₁ a (decimal (r .serial)) b d₂ → Puts d₂ b (decimal (r .amount)) e d₃ → Puts d 0 (message r) e d₃
+pub puts-message : (v : Edition) (r : Record) {d d₁ d₂ d₃ d₄ d₅ : List ℕ} {i j k m n : ℕ} → 0 ≤ length d → Puts d 0 (padded 16 (r .card)) i d₁
+    → Puts d₁ i (gap v) j d₂ → Puts d₂ j (decimal (r .serial)) k d₃ → Puts d₃ k (gap v) m d₄ → Puts d₄ m (decimal (r .amount)) n d₅
+    → Puts d 0 (message v r) n d₅
 unfolding message
-puts-message r h p q s =
-    rw append-assoc at (puts-then (padded 16 (r .card) ++ decimal (r .serial)) (decimal (r .amount)) h (puts-then (padded 16 (r .card)) (decimal (r .serial)) h p q) s)
+puts-message v r h p q s t u =
+    let card = padded 16 (r .card) in
+    let pq = puts-then card (gap v) h p q in
+    let ps = puts-then (card ++ gap v) (decimal (r .serial)) h pq s in
+    let pt = puts-then ((card ++ gap v) ++ decimal (r .serial)) (gap v) h ps t in
+    simp append-assoc at (puts-then (((card ++ gap v) ++ decimal (r .serial)) ++ gap v) (decimal (r .amount)) h pt u)
 
 pub puts-line : (n : ℕ) (j : Judged) {d d₁ d₂ : List ℕ} {at a b x : ℕ} → at ≤ length d → x ≡ letterOf j → Puts d at (decimal n) a d₁
     → Puts d₁ a (9 ∷ x ∷ 10 ∷ []) b d₂ → Puts d at (verdictLine n j) b d₂
@@ -43,7 +50,11 @@ unfolding totalLine
 total-length b =
     simp length-append (omega (arith, decimal-length (b .count), decimal-length (b .cents)))
 
-pub message-length : (r : Record) → length (message r) ≤ 56
+pub gap-length : (v : Edition) → length (gap v) ≤ 1
+gap-length Plain = omega arith
+gap-length Tabbed = omega arith
+
+pub message-length : (v : Edition) (r : Record) → length (message v r) ≤ 58
 unfolding message
-message-length r =
-    simp length-append (omega (arith, padded-length 16 (r .card), decimal-length (r .serial), decimal-length (r .amount)))
+message-length v r =
+    simp length-append (omega (arith, padded-length 16 (r .card), decimal-length (r .serial), decimal-length (r .amount), gap-length v))

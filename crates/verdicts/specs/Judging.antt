@@ -26,7 +26,7 @@ isAccepted (Refused why) = false
 
 -- a record's signature is accepted under the header
 unfoldable pub accepts : Header → Record → List ℕ → Bool
-accepts h r signature = isAccepted (verifyOutcome (h .h1) (h .h2) (h .key) (r .step) (message r) signature .answer)
+accepts h r signature = isAccepted (verifyOutcome (h .h1) (h .h2) (h .key) (r .step) (message (h .edition) r) signature .answer)
 
 -- M, O, S, then B and G, the first that applies
 unfoldable pub caseOf : Header → Books → Found → Judged

@@ -1,29 +1,43 @@
 // The signed message of a record, and whether its signature is accepted.
 ghost use mathlib.Core.Path.{_≡_};
-ghost use Prim.Native.Nat.{_≤_};
+ghost use Prim.Native.Nat.{_+_, _≤_};
 ghost use lib.ListN.{length};
 ghost use Rattle.text.specs.Digits.{Puts};
-ghost use Rattle.records.specs.Records.{message};
+ghost use Rattle.records.specs.Records.{gap, message};
 ghost use Rattle.verdicts.specs.Judging.{accepts};
 use key::Verdict;
+use records::Edition;
 use records::Header;
 use records::Record;
 
-// The digits of card, serial and amount, run together, at the front of out.
-pub fn put_message(r: Record, out: &mut [u8]) -> usize
-    requires { ⌜ 56 ≤ length (now out) ⌝ }
-    ensures { λ n. ⌜ Puts (now (out .entry)) 0 (message r) n (now (out .exit)) ⌝ }
+// What stands between card, serial and amount.
+fn put_gap(edition: Edition, out: &mut [u8], at: usize) -> usize
+    requires { ⌜ at + 1 ≤ length (now out) ⌝ }
+    ensures { λ r. ⌜ Puts (now (out .entry)) at (gap edition) r (now (out .exit)) ⌝ }
+{
+    match edition {
+        Edition::Plain => at,
+        Edition::Tabbed => text::put(out, at, &[9]),
+    }
+}
+
+// What is signed of a record in this edition, at the front of out.
+pub fn put_message(edition: Edition, r: Record, out: &mut [u8]) -> usize
+    requires { ⌜ 58 ≤ length (now out) ⌝ }
+    ensures { λ n. ⌜ Puts (now (out .entry)) 0 (message edition r) n (now (out .exit)) ⌝ }
 {
     let card = text::put_padded(out, 0, 16, r.card);
-    let serial = text::put_number(out, card, r.serial);
-    text::put_number(out, serial, r.amount)
+    let first = put_gap(edition, out, card);
+    let serial = text::put_number(out, first, r.serial);
+    let second = put_gap(edition, out, serial);
+    text::put_number(out, second, r.amount)
 }
 
 // Room for a message; only its length matters.
-fn message_room() -> [u8; 56]
-    ensures { λ r. ⌜ length r ≡ 56 ⌝ }
+fn message_room() -> [u8; 58]
+    ensures { λ r. ⌜ length r ≡ 58 ⌝ }
 {
-    [0; 56]
+    [0; 58]
 }
 
 // Whether the record's signature is accepted under the header.
@@ -32,7 +46,8 @@ pub fn is_accepted(header: Header, r: Record, signature: &[u8]) -> bool
     ensures { λ _. ⌜ now (signature .exit) ≡ now (signature .entry) ⌝ }
 {
     let mut room = message_room();
-    let n = put_message(r, &mut room);
+    let edition = header.edition;
+    let n = put_message(edition, r, &mut room);
     let key = header.key;
     match key::verify(header.h1, header.h2, &key, r.step, &room[0..n], signature) {
         Verdict::Accepted => true,

@@ -1,6 +1,5 @@
 use mathlib.Core.Path.{sym, ap, _∙_}
 use borrow.Author.Needs.{needs}
-use borrow.Author.Tests.{not-true, not-false}
 use Rattle.records.specs.FirstLine.{headed}
 use Rattle.records.proofs.Heading.{short-not, short-is}
 use Rattle.records.proofs.reading.short_header.Statement.{statement}
@@ -8,11 +7,11 @@ use Rattle.records.proofs.reading.short_header.Tie as tie
 
 returns : tie.Need-returns
 returns c =
-    c .wrong .ensures ∙ sym (ap headed (short-not (c .before .before .before .before .before .pre .are) (sym (c .before .before .is-kes .ensures) ∙ not-true _ (c .before .if1 .taken))))
+    c .wrong .ensures ∙ sym (ap headed (short-not (c .before .before .before .before .before .before .pre .are) (sym (c .before .before .before .read-edition .ensures) ∙ c .before .enum-told .given .1)))
 
 returns-2 : tie.Need-returns-2
 returns-2 c =
-    c .head-with .ensures ∙ sym (ap headed (short-is (c .before .before .before .before .before .before .pre .are) (sym (c .before .before .before .is-kes .ensures) ∙ not-false _ (c .before .before .if1 .left))))
+    c .head-with .ensures ∙ sym (ap headed (short-is (c .before .before .before .before .before .before .before .before .pre .are) (sym (c .before .before .before .before .before .read-edition .ensures) ∙ c .before .before .before .edition .given .1)))
 
 pub short-header-spec : {M : Type 1} → statement M
 short-header-spec =
@@ -22,6 +21,8 @@ short-header-spec =
     (λ c. search needs)
     (λ c. search needs)
     (λ c κs. search needs)
+    (λ c. search needs)
+    (λ c. search needs)
     (λ c κs. search needs)
     returns
     (λ c. search needs)

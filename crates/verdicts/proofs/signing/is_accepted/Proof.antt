@@ -9,7 +9,8 @@ use Rattle.verdicts.proofs.signing.is_accepted.Tie as tie
 
 part-verify-end : tie.Need-part-verify-end
 part-verify-end c =
-    omega (arith, message-length (c .before .before .before .before .before .before .before .before .args .r), c .before .before .before .before .put-message .ensures .ends, c .before .before .before .before .put-message .kept .1 .0, c .before .before .before .before .before .before .message-room .ensures)
+    let a = c .before .before .before .before .before .before .before .before .args in
+    omega (arith, message-length (a .header .edition) (a .r), c .before .before .before .before .put-message .ensures .ends, c .before .before .before .before .put-message .kept .1 .1 .0, c .before .before .before .before .before .before .message-room .ensures)
 
 returns : tie.Need-returns
 returns c =
