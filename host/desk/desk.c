@@ -77,10 +77,21 @@ static void make_table(uint64_t h1, uint64_t h2)
     read_registered();
 }
 
+/* Opens the journal, if there is one. At one of the old word, whose records are signed otherwise, the desk stops before it has changed
+ * anything. */
+static int find_journal(void)
+{
+    char word[4];
+    int journal = file_open(JOURNAL);
+    if (journal >= 0 && file_read(journal, 0, word, sizeof word) == sizeof word && memcmp(word, "kes\t", sizeof word) == 0)
+        refuse("the journal begins with kes, not kes2: it is an old one; make a new key and a new journal in another folder");
+    return journal;
+}
+
 /* Nothing is made where a key is, nor over a journal with records. A header alone is what a making that was cut off leaves. */
 static void need_no_desk(void)
 {
-    int journal = file_open(JOURNAL);
+    int journal = find_journal();
     if (file_open(KEY.name) >= 0)
         refuse("there is a key in this folder already");
     if (journal < 0)
@@ -148,7 +159,6 @@ static void open_journal(void)
 {
     struct tail tail;
     struct record last = {.signature_len = signature_size(&desk.registered)};
-    desk.journal = file_open(JOURNAL);
     if (desk.journal < 0)
         refuse("there is no journal in this folder");
     check_header();
@@ -164,6 +174,7 @@ void desk_open(const char *folder)
 {
     memory_guard(&desk, sizeof desk);
     folder_open(folder);
+    desk.journal = find_journal();
     open_key();
     open_journal();
     show("open: step %" PRIu64 ", next serial %" PRIu64 "\n", desk_step(), desk.serial + 1);

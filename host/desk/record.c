@@ -16,7 +16,7 @@ size_t record_line(char line[LINE_MOST], const struct record *record)
 
 size_t record_message(char message[MESSAGE_MOST], const struct record *record)
 {
-    return (size_t)snprintf(message, MESSAGE_MOST, "%s%" PRIu64 "%" PRIu64, record->card, record->serial, record->amount);
+    return (size_t)snprintf(message, MESSAGE_MOST, "%s\t%" PRIu64 "\t%" PRIu64, record->card, record->serial, record->amount);
 }
 
 int is_money(const char *card, uint64_t amount)
@@ -24,7 +24,7 @@ int is_money(const char *card, uint64_t amount)
     return strlen(card) == CARD_DIGITS && amount >= 1 && amount <= AMOUNT_MOST;
 }
 
-/* The signed digits run together, so a signature does not tell where card, serial and amount begin. */
+/* A loose reading lets a short card and numbers out of range through. */
 static int in_range(const struct record *record)
 {
     return is_money(record->card, record->amount) && record->serial >= 1 && record->serial <= SERIAL_MOST;

@@ -1,4 +1,4 @@
-/* record.h: the records of a journal, as document 01 has them. */
+/* record.h: the records of a journal, as document 01 has them, signed as CR 2 has it. */
 #ifndef RECORD_H
 #define RECORD_H
 
@@ -20,7 +20,7 @@ int is_money(const char *card, uint64_t amount);
 /* A line with its LF, and its length. */
 size_t record_line(char line[LINE_MOST], const struct record *record);
 
-/* What is signed: the digits of card, serial and amount, run together. */
+/* What is signed: card, serial and amount, a tab between. These are the line's own bytes from the card to the amount. */
 size_t record_message(char message[MESSAGE_MOST], const struct record *record);
 
 /* Reads a line as a record with a signature of signature_len; answers whether it is one. */

@@ -4,17 +4,17 @@
 
 #include "kes.h"
 
-enum { HEADER_MOST = 75 };
+enum { HEADER_MOST = 76 };
 
 struct registered {
     uint64_t h1, h2;
     uint8_t key[KES_KEY_SIZE];
 };
 
-/* Line 1 with its LF, and its length. */
+/* Line 1 of a journal that a desk begins, with its LF, and its length: `kes2`, the heights, the key. */
 size_t header_line(char line[HEADER_MOST + 1], const struct registered *desk);
 
-/* Reads a line as line 1; answers whether it is one. */
+/* Reads a line as line 1 of any journal, an old one's too; answers whether it is one. */
 int header_read(struct registered *desk, const char *line, size_t len);
 
 size_t signature_size(const struct registered *desk);

@@ -120,6 +120,8 @@ def refuse(desk):
         (journal + b"x" * 5000, key),
         (b"".join(lines[1:]), key),
         (b"", key),
+        (journal.replace(b"kes2\t", b"kes2\t0", 1), key),
+        (journal.replace(b"kes2\t%d\t%d\t" % (H1, H2), b"kes2\t", 1), key),
     ]:
         files = folder_of(journal=journal_now, key=key_now)
         ran = desk.run(files, "day", told=told(DAY))
@@ -129,6 +131,18 @@ def refuse(desk):
         need(ran.status == 1 and ran.files == files, "a key is made where a desk is")
     return "the desk opens on no journal or key that a crash cannot leave"
 
+
+def stop_at_old(desk):
+    """A journal of the word `kes` is left as it is, and so is all that lies beside it, opened or made anew."""
+    made, day = (by_name(whole.files) for whole in desk.whole_runs())
+    old, alone = (files["journal"].replace(b"kes2\t", b"kes\t", 1) for files in (day, made))
+    short = b"kes\t" + alone.split(b"\t")[-1]
+    torn = {"key.new": day["key"][:100], "key.old": made["key"]}
+    for files in folder_of(journal=old, key=day["key"], **torn), folder_of(journal=alone, key=made["key"]), folder_of(journal=alone), folder_of(journal=short):
+        for words, events in (("day",), told(DAY)), (("make", H1, H2), b""):
+            ran = desk.run(files, *words, told=events)
+            need(ran.status == 1 and ran.files == files and not ran.text and b"begins with kes, not kes2" in ran.error, f"the desk does not stop at an old journal: {ran.error!r}")
+    return "the desk stops at a journal of the word kes, and changes nothing"
 
 def keep_out(desk):
     """A second desk is refused while the first has the folder."""
@@ -144,4 +158,4 @@ def keep_out(desk):
 
 if not known_key.check():
     sys.exit("crash: the search for past keys does not tell them from present ones")
-crash(Desk, [*EVERYTHING, refuse, keep_out], WRONG)
+crash(Desk, [*EVERYTHING, refuse, stop_at_old, keep_out], WRONG)

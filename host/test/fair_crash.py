@@ -20,7 +20,7 @@ from known_key import H1, H2, TABLES
 from wrong_desks import WRONG_ENDS, WRONG_FAIRS
 
 SALES = [(b"1111222233334444", 250), (b"0000000000000001", 2_000_000)]
-JOURNAL = b"kes\t%d\t%d\t%s\n" % (H1, H2, CHECKER.key.hex().encode())
+JOURNAL = b"kes2\t%d\t%d\t%s\n" % (H1, H2, CHECKER.key.hex().encode())
 
 
 def told(sales):

@@ -26,7 +26,7 @@ class Stall:
     """A desk at a fair, in the model."""
 
     def __init__(self, name, h1=1, h2=2, n=3, step=STEP, master=None):
-        self.desk, self.n, self.step = Desk(SCHEME, h1, h2, kes.H(name)), n, step
+        self.desk, self.n, self.step = Desk(SCHEME, h1, h2, kes.H(name), b"kes2"), n, step
         self.key = bytes.fromhex(self.desk.key.decode())
         self.cache, key = bytearray(cache_size(n)), bytearray(32)
         FAIR.make(n, bytearray(kes.H(name + b" master")), bytearray(b"".join(kes.H(name + b" seed %d" % i) for i in range(n))), self.cache, key)
@@ -37,7 +37,7 @@ class Stall:
 
     @property
     def header(self):
-        return b"kes\t%s\n" % self.desk.key if self.desk.heights == (6, 6) else self.desk.header + b"\n"
+        return self.desk.header + b"\n"
 
     def signature(self, step, card=CARD, cents=250):
         cache, signature = bytearray(self.cache), bytearray(160)
@@ -151,20 +151,27 @@ def wrongly_asked(program):
     """Headers that are none, files that are not there, no receipts."""
     stall = Stall(b"small")
     key = stall.desk.key
-    headers = [b"", b"kes\n", b"kes\t%s" % key, b"kes\t%s\n" % key.upper(), b"kes\t01\t2\t%s\n" % key, b"kes\t13\t2\t%s\n" % key, b"kes\t1\t%s\n" % key, b"kes2\t1\t2\t%s\n" % key, b"kes\t1\t2\t%s0\n" % key, b"kes\t-1\t2\t%s\n" % key]
+    headers = [b"", b"kes\n", b"kes\t%s" % key, b"kes\t%s\n" % key.upper(), b"kes\t01\t2\t%s\n" % key, b"kes\t13\t2\t%s\n" % key, b"kes\t1\t%s\n" % key, b"kes\t1\t2\t%s0\n" % key, b"kes\t-1\t2\t%s\n" % key]
+    headers += [b"%s\t1\t2\t%s\n" % (word, key) for word in (b"KES2", b"kes1", b"kes3", b"kes22", b"kes 2")] + [b"kes2\n", b"kes2\t%s" % key, b"kes2\t1\t%s\n" % key]
     for ran in [program.ask(header, stall.certificate, [stall.receipt(1)]) for header in headers] + [program.ask(stall.header, stall.certificate, []), program.run("none", "none")]:
         assert ran.returncode == 1 and not ran.stdout and ran.stderr.count(b"\n") == 1, ran
     assert all(program.run(*words).returncode == 2 for words in [(), ("one",), ("one", "two", "three")])
-    full = Stall(b"large", 6, 6, 1, 0)
-    assert program.ask(full.desk.header + b"\n", full.certificate, [full.receipt(0)]).returncode == 0
-    return len(headers) + 6
+    return len(headers) + 5
+
+
+def every_header(program):
+    """A desk's line 1 in each of its forms, that of an old journal too."""
+    large = Stall(b"large", 6, 6, 1, 0)
+    headers = [b"kes\t6\t6\t", b"kes\t", b"kes2\t6\t6\t", b"kes2\t"]
+    assert all(program.ask(b"%s%s\n" % (head, large.desk.key), large.certificate, [large.receipt(0)]).returncode == 0 for head in headers)
+    return len(headers)
 
 
 def main():
     Stall.receipt = functools.cache(Stall.receipt)
     with tempfile.TemporaryDirectory() as folder:
         program = Program(pathlib.Path(folder))
-        for ask in good_ones, changed_receipts, changed_certificates, foreign_ones, malformed, wrongly_asked:
+        for ask in good_ones, changed_receipts, changed_certificates, foreign_ones, malformed, wrongly_asked, every_header:
             print(f"receipts: {ask.__name__.replace('_', ' ')}: {ask(program)}")
 
 
