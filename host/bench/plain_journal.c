@@ -9,7 +9,7 @@
 #include "kes.h"
 #include "plain_kes.h"
 
-enum { LINE_MAX_SIZE = 2048, FIELDS = 5, CARD = 16, MESSAGE_MAX = CARD + 1 + 10 + 1 + 7, SHORT_HEIGHT = 6, CENTS_MAX = 2000000 };
+enum { LINE_MAX_SIZE = 2048, FIELDS = 5, CARD = 16, MESSAGE_MAX = CARD + 1 + 10 + 1 + 7, CENTS_MAX = 2000000 };
 
 struct field {
     const char *text;
@@ -95,7 +95,8 @@ static int read_header(const char *line, size_t len, struct header *head)
     if ((n != 2 && n != 4) || fields[0].len < 3 || fields[0].len > 4 || memcmp(fields[0].text, "kes2", fields[0].len) != 0)
         return 0;
     head->tabs = fields[0].len == 4;
-    head->h1 = head->h2 = SHORT_HEIGHT;
+    head->h1 = head->tabs ? 8 : 6;
+    head->h2 = head->tabs ? 4 : 6;
     if (n == 4 && !(number(fields[1], 0, KES_HEIGHT_MAX, &head->h1) && number(fields[2], 0, KES_HEIGHT_MAX, &head->h2)))
         return 0;
     return unhex(fields[n - 1], head->key, sizeof head->key);

@@ -27,14 +27,16 @@ int header_read(struct registered *desk, const char *line, size_t len)
 {
     char text[HEADER_MOST + 1], again[HEADER_MOST + 1];
     const char *word;
-    int with_heights;
+    int tabbed, with_heights;
     if (len <= KEY_HEX || len > HEADER_MOST)
         return 0;
     memcpy(text, line, len);
     text[len] = 0;
-    word = strncmp(text, "kes2", 4) == 0 ? "kes2" : "kes";
+    tabbed = strncmp(text, "kes2", 4) == 0;
+    word = tabbed ? "kes2" : "kes";
     with_heights = len != strlen(word) + 1 + KEY_HEX + 1;
-    desk->h1 = desk->h2 = 6;
+    desk->h1 = tabbed ? 8 : 6;
+    desk->h2 = tabbed ? 4 : 6;
     if (with_heights && sscanf(text + strlen(word), " %2" SCNu64 " %2" SCNu64, &desk->h1, &desk->h2) != 2)
         return 0;
     if (!KES_HEIGHTS_FIT(desk->h1, desk->h2))

@@ -27,7 +27,7 @@ from rounds import Different, NoAnswer, main
 
 PROGRAM = HOST.parent / "build" / "journal"
 TIME_LIMIT = 20
-DAYS = [Day(random.Random(h1), h1, h2, 6, word, corpus.SCHEME) for h1, h2 in [*HEIGHTS, (6, 6)] for word in WORDS]
+DAYS = [Day(random.Random(h1), h1, h2, 6, word, corpus.SCHEME) for h1, h2 in [*HEIGHTS, (6, 6), (8, 4)] for word in WORDS]
 NUMERALS = [b"", b"0", b"00", b"01", b"1", b"2", b"-1", b"+1", b" 1", b"1e3", b"12", b"13", b"2000000", b"2000001", b"4294967295", b"4294967296",
             b"18446744073709551615", b"18446744073709551616", b"9" * 30]
 # drawn too seldom to be noticed here; host/model/journal_cases.py has a journal for each

@@ -6,7 +6,8 @@ from kes import DONE, TALLEST, signature_size, steps
 
 LONGEST_LINE = 2048
 LAST_LINE = 2**32 - 1
-SHORT_HEIGHTS = 6, 6
+# the heights that the short form means, by the word of line 1
+SHORT_HEIGHTS = {b"kes": (6, 6), b"kes2": (8, 4)}
 # what stands between card, serial and amount where they are signed, by the word of line 1
 GAPS = {b"kes": b"", b"kes2": b"\t"}
 
@@ -36,7 +37,7 @@ def header(line):
     fields = line.split(b"\t") if line is not None else []
     if len(fields) not in (2, 4) or fields[0] not in GAPS:
         return None
-    heights = SHORT_HEIGHTS if len(fields) == 2 else tuple(number(field, 0, TALLEST) for field in fields[1:3])
+    heights = SHORT_HEIGHTS[fields[0]] if len(fields) == 2 else tuple(number(field, 0, TALLEST) for field in fields[1:3])
     key = unhex(fields[-1], 32)
     return None if None in heights or key is None else (fields[0], *heights, key)
 

@@ -2,7 +2,7 @@
 """Writes the journals that the program journal_cases reads and what it must write under the gate, from the model with the stand-in.
 With --check it writes nothing and says whether the files are those.
 
-Each group below is a sentence of document 01, "The top-up journal", or of document 02's CR 2, and each case a name, the letters that the sentence gives its lines,
+Each group below is a sentence of document 01, "The top-up journal", or of document 02's CR 2 or 10, and each case a name, the letters that the sentence gives its lines,
 and the journal. The letters are the author's reading, the output is the model's: where the two differ, or where no case notices one of the
 misreadings of misread.py, nothing is written. Not run: that reading ends after line 4,294,967,295. A line of 2,048 bytes is M like one of
 2,049, since no record is longer than 2,030."""
@@ -18,9 +18,9 @@ from misread import MISREADINGS
 
 FOLDER = pathlib.Path(__file__).resolve().parents[2] / "crates" / "journal_cases"
 SCHEME = Scheme(Module(standin))
-# desks whose keys have 1, 8, 4,096 and 2^24 steps, and two that write `kes2`
+# desks whose keys have 1, 8, 4,096 and 2^24 steps, and some that write `kes2`
 ONE, EIGHT, SHORT, TALLEST = (Desk(SCHEME, h1, h2, range(32)) for h1, h2 in ((0, 0), (1, 2), (6, 6), (12, 12)))
-TABBED, TABBED_SHORT = (Desk(SCHEME, h1, h2, range(32), b"kes2") for h1, h2 in ((0, 0), (6, 6)))
+TABBED, TABBED_SHORT, TABBED_SIXES, TABBED_OTHER = (Desk(SCHEME, h1, h2, range(32), b"kes2") for h1, h2 in ((0, 0), (8, 4), (6, 6), (4, 8)))
 STEP, CARD, SERIAL, AMOUNT, SIGNATURE = range(5)
 GOOD = ONE.line()
 
@@ -154,14 +154,23 @@ def moved_digit(desk):
 
 def editions():
     """CR 2: such journals start with `kes2`."""
-    last = steps(6, 6) - 1
     yield "kes2-header-alone", "", under(TABBED)
     yield "kes2-full", "GGSMG", under(TABBED, *(TABBED.line(serial=n) for n in (1, 2, 4)), TABBED.line(serial=3, amount=0), TABBED.line(serial=3))
-    yield "kes2-short", "GGM", ended(b"kes2\t" + TABBED_SHORT.key, TABBED_SHORT.line(0), TABBED_SHORT.line(last, serial=2), TABBED_SHORT.line(last + 1, serial=3, at=0))
     yield "kes2-short-over-other-heights", "M", ended(b"kes2\t" + TABBED.key, TABBED.line())
     yield "kes2-three-fields", "H", ended(b"kes2\t0\t" + TABBED.key, TABBED.line())
     for name, word in ("upper", b"KES2"), ("1", b"kes1"), ("3", b"kes3"), ("22", b"kes22"), ("blank", b"kes 2"):
         yield f"kes2-word-{name}", "H", ended(changed(TABBED.header, 0, word), TABBED.line())
+
+
+def new_short_headers():
+    """CR 10: under `kes2` it shall mean 8 and 4, under `kes` still 6 and 6. T and the lengths are the same, so only G and B tell them apart."""
+    last = steps(8, 4) - 1
+    ends = lambda desk, second=2: [desk.line(0), desk.line(last, serial=second), desk.line(last + 1, serial=second + 1, at=0)]
+    yield "kes2-short", "GGM", ended(b"kes2\t" + TABBED_SHORT.key, *ends(TABBED_SHORT))
+    yield "kes2-short-over-6-6", "BBM", ended(b"kes2\t" + TABBED_SIXES.key, *ends(TABBED_SIXES, second=1))
+    yield "kes2-short-over-4-8", "BBM", ended(b"kes2\t" + TABBED_OTHER.key, *ends(TABBED_OTHER, second=1))
+    yield "kes2-full-6-6", "GGM", under(TABBED_SIXES, *ends(TABBED_SIXES))
+    yield "kes-short-over-8-4", "B", ended(b"kes\t" + TABBED_SHORT.key, changed(TABBED_SHORT.line(), SIGNATURE, TABBED_SHORT.signature(0, b"111122223333444412500")))
 
 
 def tabbed_messages():
@@ -251,7 +260,7 @@ def example():
 
 SENTENCES = [
     lines_of_text, headers, short_headers, other_lines, numbers, hexes, messages, letters, malformed, steps_below, other_serials,
-    not_accepted, first_that_applies, wrong_headers, totals, example, editions, tabbed_messages,
+    not_accepted, first_that_applies, wrong_headers, totals, example, editions, new_short_headers, tabbed_messages,
 ]
 JUDGE = Judge(SCHEME)
 CASES = [case for sentence in SENTENCES for case in sentence()]

@@ -1,4 +1,4 @@
-"""Misreadings of document 01's "The top-up journal" and of document 02's CR 2, each planted in the model, so that cases can show that they
+"""Misreadings of document 01's "The top-up journal" and of document 02's CR 2 and 10, each planted in the model, so that cases can show that they
 notice it."""
 import operator
 import re
@@ -105,7 +105,10 @@ MISREADINGS = {
     "a tab stands before the card": tabbed(lambda signed: b"\t" + signed),
     "a tab stands after the amount": tabbed(lambda signed: signed + b"\t"),
     "leading zeros of the card are not signed": tabbed(lambda signed: signed.lstrip(b"0")),
-    "the short header means heights 0 and 0": patch.object(journal, "SHORT_HEIGHTS", (0, 0)),
+    "the short header means heights 0 and 0": patch.dict(journal.SHORT_HEIGHTS, {b"kes": (0, 0)}),
+    "the short kes2 header still means 6 and 6": patch.dict(journal.SHORT_HEIGHTS, {b"kes2": (6, 6)}),
+    "the short kes header means 8 and 4": patch.dict(journal.SHORT_HEIGHTS, {b"kes": (8, 4)}),
+    "the short kes2 header means 4 and 8": patch.dict(journal.SHORT_HEIGHTS, {b"kes2": (4, 8)}),
     "S before O": letters("SOB"),
     "B before S": letters("OBS"),
     "B before O": letters("BOS"),

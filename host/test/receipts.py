@@ -161,10 +161,11 @@ def wrongly_asked(program):
 
 def every_header(program):
     """A desk's line 1 in each of its forms, that of an old journal too."""
-    large = Stall(b"large", 6, 6, 1, 0)
-    headers = [b"kes\t6\t6\t", b"kes\t", b"kes2\t6\t6\t", b"kes2\t"]
-    assert all(program.ask(b"%s%s\n" % (head, large.desk.key), large.certificate, [large.receipt(0)]).returncode == 0 for head in headers)
-    return len(headers)
+    sixes, tall = Stall(b"large", 6, 6, 1, 0), Stall(b"tall", 8, 4, 1, 0)
+    headers = [(b"kes\t6\t6\t", sixes), (b"kes\t", sixes), (b"kes2\t6\t6\t", sixes), (b"kes2\t8\t4\t", tall), (b"kes2\t", tall)]
+    assert all(program.ask(b"%s%s\n" % (head, stall.desk.key), stall.certificate, [stall.receipt(0)]).returncode == 0 for head, stall in headers)
+    assert all(program.ask(b"%s%s\n" % (head, stall.desk.key), stall.certificate, [stall.receipt(0)]).returncode == 1 for head, stall in [(b"kes\t", tall), (b"kes2\t", sixes)])
+    return len(headers) + 2
 
 
 def main():

@@ -9,11 +9,11 @@ use Rattle.text.specs.Numerals.{every, isDigit, valueFrom, digitsUpTo, noLeadin
 use Rattle.text.specs.Hex.{nibble, isHexDigit, isHexOf, bytesOf}
 use Rattle.text.specs.Digits.{digits, decimal}
 use Rattle.lines.specs.Lines.{ended, linesAfter, lastLine, linesOf}
-use Rattle.records.specs.FirstLine.{wordOf, editionIn, headWith, headIn}
+use Rattle.records.specs.FirstLine.{wordOf, editionIn, headWith, headInBy}
 use Rattle.records.specs.Records.{cardIn, numbersIn, recordIn}
 use Rattle.verdicts.specs.Judging.{caseOf, judged, judgedFrom}
 use Rattle.verdicts.specs.Printing.{verdictLine, totalLine, printed}
-use Rattle.ledger.specs.Output.{headOf, reported, journalReport, journalOutput}
+use Rattle.ledger.specs.Output.{headBy, reportedBy, reportBy, journalOutput}
 
 -- `1111222233334444`
 card : List ℕ
@@ -28,5 +28,5 @@ input = (107 ∷ 101 ∷ 115 ∷ 9 ∷ 48 ∷ 9 ∷ 48 ∷ 9 ∷ []) ++ (replica
 
 example : journalOutput input
     ≡ 50 ∷ 9 ∷ 77 ∷ 10 ∷ 51 ∷ 9 ∷ 83 ∷ 10 ∷ 116 ∷ 111 ∷ 116 ∷ 97 ∷ 108 ∷ 9 ∷ 48 ∷ 9 ∷ 48 ∷ 10 ∷ []
-unfolding card line input same fields every isDigit valueFrom digitsUpTo noLeadingZero numberIn nibble isHexDigit isHexOf bytesOf digits decimal ended linesAfter lastLine linesOf wordOf editionIn headWith headIn cardIn numbersIn recordIn caseOf judged judgedFrom verdictLine totalLine printed headOf reported journalReport journalOutput
+unfolding card line input same fields every isDigit valueFrom digitsUpTo noLeadingZero numberIn nibble isHexDigit isHexOf bytesOf digits decimal ended linesAfter lastLine linesOf wordOf editionIn headWith headInBy cardIn numbersIn recordIn caseOf judged judgedFrom verdictLine totalLine printed headBy reportedBy reportBy journalOutput
 example = refl

@@ -16,7 +16,7 @@ use Rattle.ledger.specs.declared.Phase.{Phase}
 use Rattle.ledger.specs.declared.Phase.the-variants.{First, Body, Over}
 use Rattle.ledger.specs.declared.Stream.{Stream}
 use Rattle.ledger.specs.declared.Fed.{Fed}
-use Rattle.ledger.specs.Output.{journalReport, journalOutput}
+use Rattle.ledger.specs.Output.{reportBy, journalOutput}
 use Rattle.ledger.specs.Feeding.{fresh, outFrom, remaining, isOver, Writes, Ready, Feeds, endOf, lastOf, Runs, ends, stops, feeds, joined}
 use Rattle.ledger.proofs.Taking.{out-none, unended-long}
 
@@ -59,7 +59,7 @@ unfolding fresh
 fresh-ready e l = rw e (record { keeps = tt; fits = omega arith; room = l })
 
 pub starts : (line input : List ℕ) → remaining fresh (take (fresh .size) line) input ≡ journalOutput input
-unfolding remaining fresh outFrom journalOutput journalReport linesOf
+unfolding remaining fresh outFrom journalOutput reportBy linesOf
 starts line input = refl
 
 pub law : (line : List ℕ) (pieces : List (List ℕ)) (written : List ℕ) → Runs fresh line pieces written → written ≡ journalOutput (joined pieces)

@@ -10,24 +10,22 @@ use Rattle.text.proofs.Writing.{puts-none, puts-then}
 use Rattle.lines.specs.Lines.{Line, long, unended, lastLine}
 use Rattle.lines.proofs.Law.{last-line}
 use Rattle.records.specs.declared.Header.{Header}
-use Rattle.records.specs.declared.Headed.{Headed}
-use Rattle.records.specs.declared.Answer.the-variants.{Right, Wrong}
 use Rattle.verdicts.specs.declared.Books.{Books}
 use Rattle.verdicts.specs.declared.Judged.{Judged}
 use Rattle.verdicts.specs.declared.Judged.the-variants.{Malformed, StepBelow, OtherSerial, NotAccepted, Good}
 use Rattle.ledger.specs.declared.Phase.{Phase}
 use Rattle.ledger.specs.declared.Phase.the-variants.{First, Body, Over}
 use Rattle.ledger.specs.declared.Fed.{Fed}
-use Rattle.records.specs.FirstLine.{Head, right, wrong, headed, Fits}
+use Rattle.records.specs.FirstLine.{right, wrong, Fits}
 use Rattle.verdicts.specs.Judging.{start, passed, after, judged, judgedFrom, Sound, Adds}
 use Rattle.verdicts.specs.Printing.{verdictLine, totalLine, wrongLine, printed}
-use Rattle.ledger.specs.Output.{headOf, under, reported, print}
+use Rattle.ledger.specs.Output.{headBy, headOf, under, reportedBy, reported, print}
 use Rattle.ledger.specs.Feeding.{outFrom, betweenLines, Writes, endOf}
 use Rattle.verdicts.proofs.Texts.{verdict-length, total-length}
 
 -- no line is left
 pub out-none : (h : Header) (p : Phase) → outFrom h p [] ≡ endOf p
-unfolding outFrom reported printed judgedFrom
+unfolding outFrom reportedBy printed judgedFrom
 out-none h First = rw (take-nil {A = Line} lastLine)
 out-none h (Body b) = rw (take-nil {A = Line} (lastLine + 1 - b .number))
 out-none h Over = refl
@@ -98,13 +96,13 @@ module _ (h : Header) (b : Books) (j : Judged) {out out′ : List ℕ} {at : ℕ
       })
 
 -- LINE 1
-take-first : (n : ℕ) (l : Line) (ls : List Line) → 0 < n → take n (l ∷ ls) ≡ l ∷ take (n + 1 - 2) ls
+pub take-first : (n : ℕ) (l : Line) (ls : List Line) → 0 < n → take n (l ∷ ls) ≡ l ∷ take (n + 1 - 2) ls
 take-first zero l ls h = absurd (omega arith)
 take-first (suc n) l ls h = let e : suc n + 1 - 2 ≡ n = omega arith in rw e
 
 module _ (h : Header) (l : Line) where
   first : (ls : List Line) → outFrom h First (l ∷ ls) ≡ print (under (headOf l) (take (lastLine + 1 - 2) ls))
-  unfolding outFrom reported
+  unfolding outFrom reportedBy
   first ls = ap (λ (x : List Line). print (reported x)) (take-first lastLine l ls (omega (arith, last-line)))
 
   first-wrong : headOf l ≡ wrong → (ls : List Line) → outFrom h First (l ∷ ls) ≡ wrongLine ++ []
@@ -143,17 +141,6 @@ writes-like h l k e f w =
       empty = w .empty;
     }
 
--- what reading line 1 answered
-pub was-wrong : (x : Head) {r : Headed} → r ≡ headed x → r .answer ≡ Wrong → x ≡ wrong
-unfolding headed
-was-wrong (right h) e a = absurd (let b : Right ≡ Wrong = sym (ap (λ (x : Headed). x .answer) e) ∙ a in let z : _≡_ {A = ℕ} 0 1 = cc in omega arith)
-was-wrong wrong e a = refl
-
-pub was-right : (x : Head) {r : Headed} → r ≡ headed x → r .answer ≡ Right → x ≡ right (r .header)
-unfolding headed
-was-right (right h) {r} e a = ap right (sym (ap (λ (x : Headed). x .header) e))
-was-right wrong e a = absurd (let b : Wrong ≡ Right = sym (ap (λ (x : Headed). x .answer) e) ∙ a in let z : _≡_ {A = ℕ} 0 1 = cc in omega arith)
-
 -- PAST ALL THAT COUNTS
 pub writes-over : (h : Header) (l : Line) {out : List ℕ} {at : ℕ} {r : Fed} → r ≡ betweenLines h Over at → Writes h Over l out at r out
 unfolding outFrom
@@ -171,7 +158,7 @@ like-long h b zero ls = refl
 like-long h b (suc n) ls = refl
 
 pub unended-long : (h : Header) (p : Phase) (ls : List Line) → outFrom h p (unended ∷ ls) ≡ outFrom h p (long ∷ ls)
-unfolding outFrom headOf
+unfolding outFrom headBy
 unended-long h First ls = first h unended ls ∙ sym (first h long ls)
 unended-long h (Body b) ls = like-long h b (lastLine + 1 - b .number) ls
 unended-long h Over ls = refl

@@ -3,7 +3,9 @@ use mathlib.Core.List.{List, [], _∷_}
 use Prim.Native.Nat.{ℕ}
 use Rattle.text.specs.Fields.{fields}
 use Rattle.lines.specs.Lines.{Line, whole, long, unended, linesOf}
-use Rattle.records.specs.FirstLine.{Head, right, wrong, headIn}
+use Rattle.records.specs.FirstLine.{Head, right, wrong, shortHeights, headInBy}
+use Rattle.records.specs.declared.Edition.{Edition}
+use Rattle.records.specs.declared.Heights.{Heights}
 use Rattle.verdicts.specs.Judging.{start, judgedFrom}
 use Rattle.verdicts.specs.Printing.{printed, wrongLine}
 use Rattle.verdicts.specs.declared.Judged.{Judged}
@@ -13,28 +15,37 @@ pub data Report : Type 0 where
   wrongHeader : Report
   body : List Judged → Report
 
--- what line 1 says; over-long or unended it is wrong
-unfoldable pub headOf : Line → Head
-headOf (whole l) = headIn (fields l)
-headOf long = wrong
-headOf unended = wrong
+-- what line 1 says, where the short form means these heights; over-long or unended it is wrong
+unfoldable pub headBy : (Edition → Heights) → Line → Head
+headBy short (whole l) = headInBy short (fields l)
+headBy short long = wrong
+headBy short unended = wrong
+
+abbrev pub headOf : Line → Head
+headOf l = headBy shortHeights l
 
 -- below a right line 1 the other lines are judged
 abbrev pub under : Head → List Line → Report
 under wrong ls = wrongHeader
 under (right h) ls = body (judgedFrom h start ls)
 
-unfoldable pub reported : List Line → Report
-reported [] = wrongHeader
-reported (l ∷ ls) = under (headOf l) ls
+unfoldable pub reportedBy : (Edition → Heights) → List Line → Report
+reportedBy short [] = wrongHeader
+reportedBy short (l ∷ ls) = under (headBy short l) ls
+
+abbrev pub reported : List Line → Report
+reported ls = reportedBy shortHeights ls
 
 abbrev pub print : Report → List ℕ
 print wrongHeader = wrongLine
 print (body js) = printed start js
 
 -- THE JUDGED LINES OF AN INPUT, and THE OUTPUT
-unfoldable pub journalReport : List ℕ → Report
-journalReport input = reported (linesOf input)
+unfoldable pub reportBy : (Edition → Heights) → List ℕ → Report
+reportBy short input = reportedBy short (linesOf input)
+
+abbrev pub journalReport : List ℕ → Report
+journalReport input = reportBy shortHeights input
 
 unfoldable pub journalOutput : List ℕ → List ℕ
 journalOutput input = print (journalReport input)

@@ -43,7 +43,7 @@ goes-cons : (t : Bool) (come : List ℕ) (x : ℕ) (xs more : List ℕ) → Goes
 goes-cons true come x xs more ih h = absurd (omega arith)
 goes-cons false come x xs more ih h = ih (omega arith) ∙ rw append-assoc
 
-goes-on : (come xs more : List ℕ) → GoesOn come xs more
+pub goes-on : (come xs more : List ℕ) → GoesOn come xs more
 unfolding linesAfter before
 goes-on come [] more h = rw append-nil
 goes-on come (x ∷ xs) more h = goes-cons (eqb x 10) come x xs more (goes-on (come ++ (x ∷ [])) xs more) h
@@ -92,11 +92,11 @@ pub takes : {piece line line′ : List ℕ} {from held end size : ℕ} {r : Take
     → Keeps line held (part piece from (end - from)) size line′ → r ≡ found end (length piece) size → Takes piece from line held r line′
 takes {size = size} e k a = record { size = size; keeps = rw e at k; answers = rw e at a }
 
-ended-long : (l : List ℕ) → 2048 ≤ length l → ended l ≡ long
+pub ended-long : (l : List ℕ) → 2048 ≤ length l → ended l ≡ long
 unfolding ended
 ended-long l h = simp (le-ltb (length l) 2048 h)
 
-ended-whole : (l : List ℕ) → length l < 2048 → ended l ≡ whole l
+pub ended-whole : (l : List ℕ) → length l < 2048 → ended l ≡ whole l
 unfolding ended
 ended-whole l h = simp (lt-ltb (length l) 2048 h)
 

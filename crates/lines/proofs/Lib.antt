@@ -1,2 +1,3 @@
 pub mod Buffer
 pub mod Law
+pub mod First

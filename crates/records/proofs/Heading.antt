@@ -3,6 +3,7 @@ use mathlib.Core.Path.{_≡_, refl, sym, ap, _∙_}
 use mathlib.Core.List.{List, [], _∷_}
 use mathlib.Core.Bool.{true, false}
 use Prim.Native.Nat.{ℕ, suc}
+use native.Mathlib.Omega.{arith}
 use lib.Dec.{eqb}
 use lib.ListN.{length}
 use Rattle.fields.specs.Tests.{same}
@@ -16,12 +17,14 @@ use Rattle.text.specs.declared.Decoded.the-variants.{Full, Other}
 use Rattle.records.specs.declared.Edition.{Edition}
 use Rattle.records.specs.declared.Edition.the-variants.{Plain, Tabbed}
 use Rattle.records.specs.declared.reading.Word.the-variants.{Says, Unknown}
-use Rattle.records.specs.declared.Answer.the-variants.{Right}
-use Rattle.records.specs.FirstLine.{wrong, wordOf, editionIn, headWith, headIn, headed}
+use Rattle.records.specs.declared.Answer.the-variants.{Right, Wrong}
+use Rattle.records.specs.declared.Headed.{Headed}
+use Rattle.records.specs.declared.Heights.{Heights}
+use Rattle.records.specs.FirstLine.{Head, right, wrong, wordOf, editionIn, shortHeights, headWith, headInBy, headIn, headed}
 use Rattle.records.specs.Splitting.{OtherFields}
 
 pub head-other : (fs : List (List ℕ)) → OtherFields fs → headIn fs ≡ wrong
-unfolding headIn
+unfolding headInBy
 head-other [] o = refl
 head-other (a ∷ []) o = refl
 head-other (a ∷ b ∷ []) o = absurd (o .not-two refl)
@@ -30,7 +33,7 @@ head-other (a ∷ b ∷ c ∷ d ∷ []) o = absurd (o .not-four refl)
 head-other (a ∷ b ∷ c ∷ d ∷ e ∷ r) o = refl
 
 pub head-five : {fs : List (List ℕ)} {a b c d e : List ℕ} → fs ≡ a ∷ b ∷ c ∷ d ∷ e ∷ [] → headIn fs ≡ wrong
-unfolding headIn
+unfolding headInBy
 head-five p = ap headIn p
 
 -- a word of another length is another word
@@ -57,30 +60,30 @@ module _ (word : List ℕ) where
 
 module _ {fs : List (List ℕ)} {word key : List ℕ} (are : fs ≡ word ∷ key ∷ []) where
   pub short-not : editionIn word ≡ Unknown → headIn fs ≡ wrong
-  unfolding headIn
+  unfolding headInBy
   short-not k = ap headIn are ∙ rw k
 
-  pub short-is : {e : Edition} → editionIn word ≡ Says e → headIn fs ≡ headWith e 6 6 key
-  unfolding headIn
-  short-is k = ap headIn are ∙ rw k
+  pub short-is : {e : Edition} {s : Heights} → editionIn word ≡ Says e → s ≡ shortHeights e → headIn fs ≡ headWith e (s .h1) (s .h2) key
+  unfolding headInBy
+  short-is k q = ap headIn are ∙ rw (k, q)
 
 module _ {fs : List (List ℕ)} {word a b key : List ℕ} (are : fs ≡ word ∷ a ∷ b ∷ key ∷ []) where
   pub full-not : editionIn word ≡ Unknown → headIn fs ≡ wrong
-  unfolding headIn
+  unfolding headInBy
   full-not k = ap headIn are ∙ rw k
 
   module _ {e : Edition} (k : editionIn word ≡ Says e) where
     pub full-first : numberIn 0 12 a ≡ Bad → headIn fs ≡ wrong
-    unfolding headIn
+    unfolding headInBy
     full-first n = ap headIn are ∙ rw (k, n)
 
     module _ {h1 : ℕ} (e1 : numberIn 0 12 a ≡ Value h1) where
       pub full-second : numberIn 0 12 b ≡ Bad → headIn fs ≡ wrong
-      unfolding headIn
+      unfolding headInBy
       full-second n = ap headIn are ∙ rw (k, e1, n)
 
       pub full-is : {h2 : ℕ} → numberIn 0 12 b ≡ Value h2 → headIn fs ≡ headWith e h1 h2 key
-      unfolding headIn
+      unfolding headInBy
       full-is n = ap headIn are ∙ rw (k, e1, n)
 
 module _ (e : Edition) (h1 h2 : ℕ) {hex zeros key : List ℕ} {r : Decoded} (l : length zeros ≡ 32) (u : Unhexes hex zeros r key) where
@@ -96,3 +99,14 @@ module _ (e : Edition) (h1 h2 : ℕ) {hex zeros key : List ℕ} {r : Decoded} (l
   head-wrong d =
       let g : isHexOf 32 hex ≡ false = ap (λ (n : ℕ). isHexOf n hex) (sym l) ∙ other-hex u d .0 in
       rw g
+
+-- THE OTHER WAY ROUND: what line 1 says, from what was answered
+pub was-wrong : (x : Head) {r : Headed} → r ≡ headed x → r .answer ≡ Wrong → x ≡ wrong
+unfolding headed
+was-wrong (right h) e a = absurd (let b : Right ≡ Wrong = sym (ap (λ (x : Headed). x .answer) e) ∙ a in let z : _≡_ {A = ℕ} 0 1 = cc in omega arith)
+was-wrong wrong e a = refl
+
+pub was-right : (x : Head) {r : Headed} → r ≡ headed x → r .answer ≡ Right → x ≡ right (r .header)
+unfolding headed
+was-right (right h) {r} e a = ap right (sym (ap (λ (x : Headed). x .header) e))
+was-right wrong e a = absurd (let b : Wrong ≡ Right = sym (ap (λ (x : Headed). x .answer) e) ∙ a in let z : _≡_ {A = ℕ} 0 1 = cc in omega arith)

@@ -15,13 +15,14 @@ use Rattle.text.specs.declared.Number.{Number}
 use Rattle.text.specs.declared.Number.the-variants.{Value, Bad}
 use Rattle.rules.specs.Table.{steps, signatureSize}
 use Rattle.records.specs.declared.Edition.{Edition}
+use Rattle.records.specs.declared.Edition.the-variants.{Plain, Tabbed}
 use Rattle.records.specs.declared.reading.Word.{Word}
 use Rattle.records.specs.declared.reading.Word.the-variants.{Says, Unknown}
 use Rattle.records.specs.declared.Header.{Header}
 use Rattle.records.specs.declared.Record.{Record}
 use Rattle.records.specs.declared.Entry.{Entry}
 use Rattle.records.specs.declared.Entry.the-variants.{WellFormed, IllFormed}
-use Rattle.records.specs.FirstLine.{right, wrong, editionIn, said, headWith, headIn, Fits}
+use Rattle.records.specs.FirstLine.{right, wrong, editionIn, said, shortHeights, headWith, headInBy, headIn, Fits}
 use Rattle.records.specs.Records.{cardIn, numbersIn, Found, malformed, signed, signedIn, recordIn, InRange}
 
 -- a number was given
@@ -49,7 +50,7 @@ chosen true x y never e = e
 chosen false x y never e = absurd (never e)
 
 -- HEIGHTS
-wrong-not : {h : Header} → wrong ≡ right h → ⊥
+pub wrong-not : {h : Header} → wrong ≡ right h → ⊥
 wrong-not e = let z : _≡_ {A = ℕ} 0 1 = cc in omega arith
 
 with-fits : (v : Edition) (h1 h2 : ℕ) (key : List ℕ) {h : Header} → h1 ≤ 12 → h2 ≤ 12 → headWith v h1 h2 key ≡ right h → Fits h
@@ -59,13 +60,18 @@ with-fits v h1 h2 key {h} a b e =
     let q : _≡_ {A = Header} (record { edition = v; h1 = h1; h2 = h2; key = bytesOf key }) h = cc in
     subst Fits q (record { first = a; second = b })
 
+short-fits : (e : Edition) → (shortHeights e .h1 ≤ 12) × (shortHeights e .h2 ≤ 12)
+short-fits Plain = (omega arith, omega arith)
+short-fits Tabbed = (omega arith, omega arith)
+
 pub head-fits : (fs : List (List ℕ)) {h : Header} → headIn fs ≡ right h → Fits h
-unfolding headIn
+unfolding headInBy
 head-fits [] e = absurd (wrong-not e)
 head-fits (a ∷ []) e = absurd (wrong-not e)
 head-fits (word ∷ key ∷ []) e =
     let told = said-some wrong (editionIn word) _ wrong-not e in
-    with-fits (told .edition) 6 6 key (omega arith) (omega arith) (told .so)
+    let low = short-fits (told .edition) in
+    with-fits (told .edition) _ _ key (low .0) (low .1) (told .so)
 head-fits (a ∷ b ∷ c ∷ []) e = absurd (wrong-not e)
 head-fits (word ∷ a ∷ b ∷ key ∷ []) e =
     let told = said-some wrong (editionIn word) _ wrong-not e in

@@ -1,5 +1,5 @@
 -- Line 1. Document 01, "The top-up journal": "`kes`, h1, h2 (0 to 12 each), verification key; or `kes`, verification key, which means heights 6 and 6".
--- Document 02, CR 2: "Such journals start with `kes2`".
+-- Document 02, CR 2: "Such journals start with `kes2`"; CR 10, of the two-field form: "Under `kes2` it shall mean 8 and 4, under `kes` still 6 and 6".
 use mathlib.Core.List.{List, [], _∷_}
 use Prim.Native.Nat.{ℕ, _≤_}
 use lib.ListN.{replicate}
@@ -10,6 +10,7 @@ use Rattle.records.specs.declared.Edition.{Edition}
 use Rattle.records.specs.declared.Edition.the-variants.{Plain, Tabbed}
 use Rattle.records.specs.declared.reading.Word.{Word}
 use Rattle.records.specs.declared.reading.Word.the-variants.{Says, Unknown}
+use Rattle.records.specs.declared.Heights.{Heights}
 use Rattle.records.specs.declared.Header.{Header}
 use Rattle.records.specs.declared.Headed.{Headed}
 use Rattle.records.specs.declared.Answer.the-variants.{Right, Wrong}
@@ -33,19 +34,28 @@ abbrev pub said : {A : Type 0} → A → Word → (Edition → A) → A
 said other Unknown f = other
 said other (Says e) f = f e
 
+-- the heights that the short form means
+abbrev pub shortHeights : Edition → Heights
+shortHeights Plain = record { h1 = 6; h2 = 6 }
+shortHeights Tabbed = record { h1 = 8; h2 = 4 }
+
 -- the header of this edition and these heights, whose key is written in hex
 unfoldable pub headWith : Edition → ℕ → ℕ → List ℕ → Head
 headWith e h1 h2 key = pick (isHexOf 32 key) (right (record { edition = e; h1 = h1; h2 = h2; key = bytesOf key })) wrong
 
--- the header that the fields of line 1 say
-unfoldable pub headIn : List (List ℕ) → Head
-headIn [] = wrong
-headIn (a ∷ []) = wrong
-headIn (word ∷ key ∷ []) = said wrong (editionIn word) (λ e. headWith e 6 6 key)
-headIn (a ∷ b ∷ c ∷ []) = wrong
-headIn (word ∷ a ∷ b ∷ key ∷ []) =
+-- the header that the fields of line 1 say, where the short form means these heights
+unfoldable pub headInBy : (Edition → Heights) → List (List ℕ) → Head
+headInBy short [] = wrong
+headInBy short (a ∷ []) = wrong
+headInBy short (word ∷ key ∷ []) = said wrong (editionIn word) (λ e. headWith e (short e .h1) (short e .h2) key)
+headInBy short (a ∷ b ∷ c ∷ []) = wrong
+headInBy short (word ∷ a ∷ b ∷ key ∷ []) =
     said wrong (editionIn word) (λ e. given wrong (numberIn 0 12 a) (λ h1. given wrong (numberIn 0 12 b) (λ h2. headWith e h1 h2 key)))
-headIn (a ∷ b ∷ c ∷ d ∷ e ∷ r) = wrong
+headInBy short (a ∷ b ∷ c ∷ d ∷ e ∷ r) = wrong
+
+-- the header that they say
+abbrev pub headIn : List (List ℕ) → Head
+headIn fs = headInBy shortHeights fs
 
 -- the heights that every header has
 pub record Fits (h : Header) : Type 0 where

@@ -5,11 +5,19 @@ mod splitting;
 pub use reading::no_header;
 pub use reading::read_header;
 pub use reading::read_record;
+pub use splitting::Tabs;
+pub use splitting::split;
 
 // The word of line 1, by which the signed message goes: `kes`, its digits run together, or `kes2`, with tabs between.
 pub enum Edition {
     Plain,
     Tabbed,
+}
+
+// The heights of a key's two trees.
+pub struct Heights {
+    pub h1: u64,
+    pub h2: u64,
 }
 
 // What line 1 says.

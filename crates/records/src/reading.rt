@@ -5,7 +5,7 @@ ghost use lib.ListN.{length};
 ghost use Rattle.fields.specs.Tests.{same};
 ghost use Rattle.text.specs.Fields.{fields};
 ghost use Rattle.rules.specs.Table.{steps, signatureSize};
-ghost use Rattle.records.specs.FirstLine.{editionIn, wrong, headWith, headIn, noHeader, headed, Fits};
+ghost use Rattle.records.specs.FirstLine.{editionIn, shortHeights, wrong, headWith, headIn, noHeader, headed, Fits};
 ghost use Rattle.records.specs.Records.{cardIn, numbersIn, recordIn, Reads};
 ghost use Rattle.records.specs.Splitting.{TwoFields, FourFields, FiveFields};
 use crate::Answer;
@@ -13,6 +13,7 @@ use crate::Edition;
 use crate::Entry;
 use crate::Headed;
 use crate::Header;
+use crate::Heights;
 use crate::Record;
 use crate::splitting::Tabs;
 use crate::splitting::split;
@@ -89,6 +90,16 @@ fn head_with(edition: Edition, h1: u64, h2: u64, hex: &[u8]) -> Headed
     }
 }
 
+// What the short form means.
+fn short_heights(edition: Edition) -> Heights
+    ensures { λ r. ⌜ r ≡ shortHeights edition ⌝ }
+{
+    match edition {
+        Edition::Plain => Heights { h1: 6, h2: 6 },
+        Edition::Tabbed => Heights { h1: 8, h2: 4 },
+    }
+}
+
 fn short_header(line: &[u8], a: usize) -> Headed
     requires { ⌜ TwoFields (now line) a ⌝ }
     ensures { λ r. ⌜ r ≡ headed (headIn (fields (now (line .entry)))) ⌝ }
@@ -96,8 +107,9 @@ fn short_header(line: &[u8], a: usize) -> Headed
     let Word::Says(edition) = read_edition(&line[0..a]) else {
         return wrong();
     };
+    let heights = short_heights(edition);
     let start = a + 1;
-    head_with(edition, 6, 6, &line[start..line.len()])
+    head_with(edition, heights.h1, heights.h2, &line[start..line.len()])
 }
 
 fn full_header(line: &[u8], a: usize, b: usize, c: usize) -> Headed

@@ -3,21 +3,22 @@ use borrow.Author.Needs.{needs}
 use Rattle.lines.specs.Lines.{whole, long}
 use Rattle.text.specs.Fields.{fields}
 use Rattle.records.specs.FirstLine.{headIn}
-use Rattle.ledger.specs.Output.{headOf}
+use Rattle.records.proofs.Heading.{was-wrong, was-right}
+use Rattle.ledger.specs.Output.{headBy}
 use Rattle.records.proofs.Ranges.{head-fits}
-use Rattle.ledger.proofs.Taking.{writes-like, writes-right, was-wrong, was-right}
+use Rattle.ledger.proofs.Taking.{writes-like, writes-right}
 use Rattle.ledger.proofs.feeding.first_line.Statement.{statement}
 use Rattle.ledger.proofs.feeding.first_line.Tie as tie
 
 returns : tie.Need-returns
-unfolding headOf
+unfolding headBy
 returns c =
     let a = c .before .before .before .before .before .before .before .before .before .args in
     writes-like (a .header) long (whole (a .line .now)) refl (was-wrong (headIn (fields (a .line .now))) (c .before .before .before .before .before .before .read-header .ensures .0) (c .before .before .before .before .enum-told2 .given .1))
     (c .before .before .wrong-line .ensures)
 
 returns-2 : tie.Need-returns-2
-unfolding headOf
+unfolding headBy
 returns-2 c =
     let a = c .before .before .before .before .before .before .before .args in
     let e = was-right (headIn (fields (a .line .now))) (c .before .before .before .before .read-header .ensures .0) (c .before .before .enum-told .given .1) in

@@ -1,13 +1,13 @@
 use mathlib.Core.Path.{refl}
 use borrow.Author.Needs.{needs}
 use Rattle.lines.specs.Lines.{long}
-use Rattle.ledger.specs.Output.{headOf}
+use Rattle.ledger.specs.Output.{headBy}
 use Rattle.ledger.proofs.Taking.{writes-wrong}
 use Rattle.ledger.proofs.feeding.wrong_line.Statement.{statement}
 use Rattle.ledger.proofs.feeding.wrong_line.Tie as tie
 
 returns : tie.Need-returns
-unfolding headOf
+unfolding headBy
 returns c = writes-wrong (c .before .before .before .before .before .before .args .header) long refl (c .between .ensures) (c .before .before .before .put-wrong .ensures)
 
 pub wrong-line-spec : {M : Type 1} → statement M

@@ -11,7 +11,7 @@ returns c =
 
 returns-2 : tie.Need-returns-2
 returns-2 c =
-    c .head-with .ensures ∙ sym (ap headed (short-is (c .before .before .before .before .before .before .before .before .pre .are) (sym (c .before .before .before .before .before .read-edition .ensures) ∙ c .before .before .before .edition .given .1)))
+    c .head-with .ensures ∙ sym (ap headed (short-is (c .before .before .before .before .before .before .before .before .before .pre .are) (sym (c .before .before .before .before .before .before .read-edition .ensures) ∙ c .before .before .before .before .edition .given .1) (c .before .before .short-heights .ensures)))
 
 pub short-header-spec : {M : Type 1} → statement M
 short-header-spec =
@@ -25,6 +25,7 @@ short-header-spec =
     (λ c. search needs)
     (λ c κs. search needs)
     returns
+    (λ c κs. search needs)
     (λ c. search needs)
     (λ c. search needs)
     (λ c. search needs)
