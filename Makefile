@@ -5,7 +5,7 @@ help:
 	@echo 'make demo    build everything for the desk and show a short day of it, and one at a fair'
 	@echo 'make test    every check there is: host tests and the gate (rt ci), side by side'
 	@echo 'make desk    build/: the library and programs with real Ed25519 (ED25519=sodium or openssl)'
-	@echo 'make install puts library, header, journal and man pages under PREFIX (and DESTDIR)'
+	@echo 'make install puts library, header, programs and man pages under PREFIX (and DESTDIR)'
 	@echo 'make bench   race the hash, the calls and the journal against plain C and libsodium alone'
 	@echo 'make plot    draw docs/speed.svg from what the last make bench found'
 	@echo 'make fuzz    hostile input for long, against the model and coverage-guided (SEED=, SECONDS=600)'
