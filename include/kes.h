@@ -66,8 +66,7 @@ enum kes_numbers {
 #define KES_FAIR_CACHE_MAX 32772u
 
 /* Stack that a caller leaves free below it: what a call may use, with the Ed25519 library, and what kes_wipe clears.
- * Measured (host/test/stack) on 64-bit Arm: under 27,000 bytes with libsodium 1.0.18, under 28,000 with OpenSSL 3.0, of which
- * kes_fair_make keeps 24,576 for what it has asked and not yet written, all public; under 14,000 without the fair. The rest is margin. */
+ * docs/HOST.md has what each call was measured to use. */
 #define KES_STACK 73728
 
 /* Sizes and steps of a key of these heights, 0 where a height is not 0 to 12, of whatever type. */

@@ -41,7 +41,7 @@ static struct {
     int file;
 } fair;
 
-/* The cache's entries and step, where CR 3 lays them. */
+/* The cache's entries and step, where request 3 lays them. */
 static uint64_t cache_entries(void) { return (uint64_t)fair.cache[0] | (uint64_t)fair.cache[1] << 8; }
 static uint64_t cache_step(void) { return (uint64_t)fair.cache[2] | (uint64_t)fair.cache[3] << 8; }
 

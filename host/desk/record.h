@@ -1,4 +1,4 @@
-/* record.h: the records of a journal, as document 01 has them, signed as CR 2 has it. */
+/* record.h: the records of a journal, as document 01 has them, signed as request 2 has it. */
 #ifndef RECORD_H
 #define RECORD_H
 

@@ -1,8 +1,8 @@
-/* A fuzzer's target: a good call with the input laid over it, made as host/test/lent.h says, over both adapters.
- * The fuzzer cannot see into the library. It sees due(), which says the number that document 01, CR 3 and CR 4 want, by kes.h's sizes. */
+/* A fuzzer's target: a good call with the input laid over it, made as host/test/lib/lent.h says, over both adapters.
+ * The fuzzer cannot see into the library. It sees due(), which says the number that document 01, request 3 and request 4 want, by kes.h's sizes. */
 #include <string.h>
 
-#include "../test/lent.h"
+#include "../test/lib/lent.h"
 #include "input.h"
 #include "kes.h"
 
@@ -211,7 +211,7 @@ static uint32_t due_to_fair_verify(const struct request *r)
     return fair_honest(r) ? KES_DONE : KES_NOT_ACCEPTED;
 }
 
-/* The number that CR 3 has for a call of the fair. */
+/* The number that request 3 has for a call of the fair. */
 static uint32_t fair_due(const struct request *r)
 {
     const uint8_t *cache = r->bytes[0];

@@ -4,7 +4,7 @@ import functools
 import corpus
 import fair
 import sodium
-from library import FAIR_MAKE, FAIR_MOVE, FAIR_SIGN, FAIR_VERIFY
+from lib.library import FAIR_MAKE, FAIR_MOVE, FAIR_SIGN, FAIR_VERIFY
 from mutate import edge
 
 FAIR = fair.Fair(corpus.kes.Module(sodium))

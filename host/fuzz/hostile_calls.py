@@ -15,8 +15,8 @@ import fair
 import fair_calls
 import kes
 import sodium
-from library import FAIR_MAKE, FAIR_MOVE, FAIR_SIGN, HASH, MAKE, MOST, MOVE, READ_KEY, SIGN, VERIFY, Ended, Library
-from modelled import NAMES, Model, show
+from lib.library import FAIR_MAKE, FAIR_MOVE, FAIR_SIGN, HASH, MAKE, MOST, MOVE, READ_KEY, SIGN, VERIFY, Ended, Library
+from lib.modelled import NAMES, Model, show
 from mutate import edge, spoiled
 from planted import FAIR, HOSTILE, PLANTED
 from rounds import Different, NoAnswer, main

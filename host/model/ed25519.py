@@ -1,4 +1,4 @@
-"""Ed25519 after RFC 8032, sections 5.1.1 to 5.1.7, on plain integers: the independent side of the seam's tests.
+"""Ed25519 after RFC 8032, sections 5.1.1 to 5.1.7, on plain integers: the independent side of the outside calls' tests.
 It is slow and takes a different time for each secret, so it is for tests alone."""
 import hashlib
 

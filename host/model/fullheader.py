@@ -1,4 +1,4 @@
-"""fullheader, a second time from the text of document 02's CR 10, sharing no code."""
+"""fullheader, a second time from the text of request 10, sharing no code."""
 from journal import GAPS, unhex
 
 

@@ -1,4 +1,4 @@
-"""The top-up journal, judged a second time from the text of documents 01 and 02, sharing no code."""
+"""The top-up journal, judged a second time from the text of document 01 and of requests 2 and 10, sharing no code."""
 import functools
 import re
 

@@ -2,7 +2,7 @@
 """Writes the journals that the program journal_cases reads and what it must write under the gate, from the model with the stand-in.
 With --check it writes nothing and says whether the files are those.
 
-Each group below is a sentence of document 01, "The top-up journal", or of document 02's CR 2 or 10, and each case a name, the letters that the sentence gives its lines,
+Each group below is a sentence of document 01, "The top-up journal", or of request 2 or 10, and each case a name, the letters that the sentence gives its lines,
 and the journal. The letters are the author's reading, the output is the model's: where the two differ, or where no case notices one of the
 misreadings of misread.py, nothing is written. Not run: that reading ends after line 4,294,967,295. A line of 2,048 bytes is M like one of
 2,049, since no record is longer than 2,030."""
@@ -153,7 +153,7 @@ def moved_digit(desk):
 
 
 def editions():
-    """CR 2: such journals start with `kes2`."""
+    """Request 2: such journals start with `kes2`."""
     yield "kes2-header-alone", "", under(TABBED)
     yield "kes2-full", "GGSMG", under(TABBED, *(TABBED.line(serial=n) for n in (1, 2, 4)), TABBED.line(serial=3, amount=0), TABBED.line(serial=3))
     yield "kes2-short-over-other-heights", "M", ended(b"kes2\t" + TABBED.key, TABBED.line())
@@ -163,7 +163,7 @@ def editions():
 
 
 def new_short_headers():
-    """CR 10: under `kes2` it shall mean 8 and 4, under `kes` still 6 and 6. T and the lengths are the same, so only G and B tell them apart."""
+    """Request 10: under `kes2` it shall mean 8 and 4, under `kes` still 6 and 6. T and the lengths are the same, so only G and B tell them apart."""
     last = steps(8, 4) - 1
     ends = lambda desk, second=2: [desk.line(0), desk.line(last, serial=second), desk.line(last + 1, serial=second + 1, at=0)]
     yield "kes2-short", "GGM", ended(b"kes2\t" + TABBED_SHORT.key, *ends(TABBED_SHORT))
@@ -174,7 +174,7 @@ def new_short_headers():
 
 
 def tabbed_messages():
-    """CR 2: it shall be card, serial and amount, one tab between; a `kes` journal is still judged by the old text."""
+    """Request 2: it shall be card, serial and amount, one tab between; a `kes` journal is still judged by the old text."""
     line, signed = TABBED.line(), [b"1111222233334444", b"1", b"2500"]
     others = b"".join(signed), b" ".join(signed), b"\t\t".join(signed), b"\t" + b"\t".join(signed), b"\t".join(signed) + b"\t"
     one_tab = b"1111222233334444\t12500", b"11112222333344441\t2500"

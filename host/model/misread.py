@@ -1,4 +1,4 @@
-"""Misreadings of document 01's "The top-up journal" and of document 02's CR 2 and 10, each planted in the model, so that cases can show that they
+"""Misreadings of document 01's "The top-up journal" and of requests 2 and 10, each planted in the model, so that cases can show that they
 notice it."""
 import operator
 import re

@@ -6,7 +6,7 @@ import sys
 import tempfile
 
 sys.dont_write_bytecode = True
-from library import HASH, Library
+from lib.library import HASH, Library
 
 SIZES = [20, 32, 48, 64]
 LENGTHS = [0, 3, 128, 129, 255, 1024]

@@ -7,8 +7,8 @@ import tempfile
 import time
 
 sys.dont_write_bytecode = True
-from library import FAIR_MAKE, FAIR_MOVE, FAIR_SIGN, FAIR_VERIFY, HASH, MAKE, MOVE, READ_KEY, SIGN, VERIFY, Library
-from modelled import NAMES, Model, fair, kes, show
+from lib.library import FAIR_MAKE, FAIR_MOVE, FAIR_SIGN, FAIR_VERIFY, HASH, MAKE, MOVE, READ_KEY, SIGN, VERIFY, Library
+from lib.modelled import NAMES, Model, fair, kes, show
 
 
 class Drawing:

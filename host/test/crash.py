@@ -11,11 +11,11 @@ import sys
 ROOT = pathlib.Path(__file__).resolve().parents[2]
 sys.dont_write_bytecode = True
 sys.path.insert(0, str(ROOT / "host" / "model"))
-import known_key
-from crashes import EVERYTHING, NO_FILES, Program, by_name, crash, folder_of, need
+from lib import known_key
+from lib.crashes import EVERYTHING, NO_FILES, Program, by_name, crash, folder_of, need
 from journal import Judge
-from known_key import H1, H2, SCHEME, SECRETS, TABLES
-from wrong_desks import WRONG
+from lib.known_key import H1, H2, SCHEME, SECRETS, TABLES
+from lib.wrong_desks import WRONG
 
 JUDGE = Judge(SCHEME)
 

@@ -12,7 +12,7 @@ sys.dont_write_bytecode = True
 sys.path.insert(0, str(ROOT / "host" / "model"))
 import ed25519
 from frames import ask_sum, flipped
-from library import VERIFY, Library
+from lib.library import VERIFY, Library
 from kes import Module, Scheme, cut, left, signature_size, sum_size
 
 MODEL = Scheme(Module(ed25519))

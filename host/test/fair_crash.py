@@ -12,12 +12,11 @@ import tempfile
 ROOT = pathlib.Path(__file__).resolve().parents[2]
 sys.dont_write_bytecode = True
 sys.path.insert(0, str(ROOT / "host" / "model"))
-import known_fair
-import known_key
-from crashes import EVERYTHING, Program, by_name, crash, folder_of, forget, keep_promises, need
-from known_fair import CHECKER, MORNING
-from known_key import H1, H2, TABLES
-from wrong_desks import WRONG_ENDS, WRONG_FAIRS
+from lib import known_fair, known_key
+from lib.crashes import EVERYTHING, Program, by_name, crash, folder_of, forget, keep_promises, need
+from lib.known_fair import CHECKER, MORNING
+from lib.known_key import H1, H2, TABLES
+from lib.wrong_desks import WRONG_ENDS, WRONG_FAIRS
 
 SALES = [(b"1111222233334444", 250), (b"0000000000000001", 2_000_000)]
 JOURNAL = b"kes2\t%d\t%d\t%s\n" % (H1, H2, CHECKER.key.hex().encode())

@@ -1,6 +1,6 @@
 #!/usr/bin/env python3
 """Random journals, whole and damaged, through build/fullheader: what it writes is the model's, byte for byte; build/journal judges it as the
-model judged the journal before CR 10, when the short form meant 6 and 6 under either word; and a second run changes nothing. Where it
+model judged the journal before request 10, when the short form meant 6 and 6 under either word; and a second run changes nothing. Where it
 cannot read or write, it stops, and the size tells. Reproducible: fullheaders.py [SEED [JOURNALS]]. Needs desk/build before."""
 import os
 import pathlib

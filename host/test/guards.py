@@ -7,7 +7,7 @@ import sys
 import tempfile
 
 sys.dont_write_bytecode = True
-from library import linked
+from lib.library import linked
 
 BESIDE, TOUCHED = b"a byte beside", b"touched"
 # in the order of guards.c

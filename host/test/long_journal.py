@@ -15,7 +15,7 @@ sys.path.insert(0, str(ROOT / "host" / "model"))
 import ed25519
 import kes
 from journal import Judge, message
-from library import MAKE, MOVE, READ_KEY, SIGN, Library
+from lib.library import MAKE, MOVE, READ_KEY, SIGN, Library
 
 HEIGHTS = 6, 6
 PAGES = 256  # KiB: the kernel counts a process's pages in batches
@@ -77,7 +77,7 @@ def long_journal(library, lines, folder):
 def counting(folder):
     """The program with a count of its Ed25519 calls."""
     objects = folder / "counting.o", folder / "counted.o"
-    subprocess.run(["gcc", "-std=c99", "-O1", "-c", ROOT / "host" / "test" / "counting.c", "-o", objects[0]], check=True)
+    subprocess.run(["gcc", "-std=c99", "-O1", "-c", ROOT / "host" / "test" / "lib" / "counting.c", "-o", objects[0]], check=True)
     subprocess.run(["ld", "-r", "--wrap=desk_ed25519_verify", BUILD / "obj" / "journal.o", objects[0], "-o", objects[1]], check=True)
     subprocess.run([ROOT / "desk" / "link", objects[1], "sodium", folder / "counted"], check=True)
     return folder / "counted"

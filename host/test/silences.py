@@ -1,7 +1,7 @@
 #!/usr/bin/env python3
 """A module that drops out, at every place at which a call can fail: each make and move at heights 2 and 2, signing, a fair's make of three
 entries and its signing, from tallies near 0, 2^32 and 2^64. Each time the call is made again with the tally left. Every answer, every
-buffer and the tally are the independent model's. And nothing but the seam stores to a tally. Needs desk/build before."""
+buffer and the tally are the independent model's. And nothing but crate ed25519 stores to a tally. Needs desk/build before."""
 import itertools
 import pathlib
 import re
@@ -9,8 +9,8 @@ import sys
 import tempfile
 
 sys.dont_write_bytecode = True
-from library import FAIR_MAKE, FAIR_SIGN, MAKE, MOVE, SIGN, Library
-from modelled import NAMES, Model, fair, kes, show, sodium
+from lib.library import FAIR_MAKE, FAIR_SIGN, MAKE, MOVE, SIGN, Library
+from lib.modelled import NAMES, Model, fair, kes, show, sodium
 
 ROOT = pathlib.Path(__file__).resolve().parents[2]
 STARTS = [0, 2**32 - 4, 2**32 + 96, 2**64 - 4]
@@ -80,7 +80,7 @@ def main():
             places[name] = places.get(name, 0) + silent_places(library, model, asking)
     for name, count in places.items():
         print(f"silences: {name}: {count} places at which it fails, and is done when tried again")
-    print("silences: nothing but the seam stores to a tally")
+    print("silences: nothing but crate ed25519 stores to a tally")
 
 
 main()

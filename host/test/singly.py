@@ -5,8 +5,8 @@ import sys
 import tempfile
 
 sys.dont_write_bytecode = True
-from library import MAKE, MOVE, Library
-from modelled import kes
+from lib.library import MAKE, MOVE, Library
+from lib.modelled import kes
 
 HEIGHTS = range(7)
 

@@ -17,7 +17,7 @@ sys.path.insert(0, str(ROOT / "host" / "model"))
 import fair
 import kes
 import sodium
-from library import COUNTED, program
+from lib.library import COUNTED, program
 from past import FairPast, Past, number_of
 from planted import SecretKept, SeedKept
 

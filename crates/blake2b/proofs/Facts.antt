@@ -6,9 +6,9 @@ use Prim.Native.Nat.{ℕ, _/_, _%_, _<_}
 use native.Mathlib.Omega.{arith}
 use lib.ListN.{length, getD, List·getD-eq-default}
 use Rattle.fields.specs.Fields.{Bytes}
+use Rattle.fields.proofs.Cases.{side}
 use Rattle.rfc7693.specs.Rfc7693.{byte, digest, hash}
 use Rattle.rfc7693.proofs.Laws.{length-tab, getD-tab}
-use Rattle.blake2b.proofs.Whole.{le-or-lt}
 
 digest-length : (h : List ℕ) → length (digest h) ≡ 32
 unfolding digest
@@ -23,9 +23,9 @@ unfolding digest
 digest-bytes h i =
     let f : ℕ → ℕ = λ k. byte (getD h (k / 8) 0) (k % 8) in
     ⊎-elim
-    (λ past. rw (List·getD-eq-default (digest h) 0 {n = i} (rw (digest-length h) past)) (omega arith))
     (λ below. rw (getD-tab f 32 i below) (byte-lt (getD h (i / 8) 0) (i % 8)))
-    (le-or-lt 32 i)
+    (λ past. rw (List·getD-eq-default (digest h) 0 {n = i} (rw (digest-length h) past)) (omega arith))
+    (side i 32)
 
 pub hash-length : (m : List ℕ) → length (hash m) ≡ 32
 unfolding hash

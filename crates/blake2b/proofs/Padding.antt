@@ -9,10 +9,10 @@ use lib.Seq.{take-all, getD-drop, ext-getD}
 use Rattle.fields.specs.Fields.{put}
 use Rattle.rfc7693.specs.Rfc7693.{tab, block}
 use Rattle.rfc7693.proofs.Laws.{length-tab, getD-tab, block-same}
-use Rattle.blake2b.specs.Running.{rest}
+use Rattle.blake2b.specs.Running.{blockFrom}
 
-pub block-rest : (s : List ℕ) (a : ℕ) → block (rest s a) 0 ≡ block s a
-unfolding rest
+pub block-rest : (s : List ℕ) (a : ℕ) → block (blockFrom s a) 0 ≡ block s a
+unfolding blockFrom
 block-rest s a = block-same _ s 0 a (λ n lt. rw (zero-add n) (getD-tab (λ j. getD s (a + j) 0) 128 n lt))
 
 zeros-at : (n i : ℕ) → _≡_ {A = ℕ} (getD (replicate n 0) i 0) 0
@@ -28,8 +28,8 @@ padded-at (x ∷ p) q (suc i) z = padded-at p q i z
 
 -- the last block's bytes, copied into zeros
 pub padded-is : (s : List ℕ) (from : ℕ) → from ≤ length s → length s ≤ from + 128
-    → put (replicate 128 0) 0 (length (take (length s - from) (drop from s))) (take (length s - from) (drop from s)) ≡ rest s from
-unfolding rest
+    → put (replicate 128 0) 0 (length (take (length s - from) (drop from s))) (take (length s - from) (drop from s)) ≡ blockFrom s from
+unfolding blockFrom
 padded-is s from low high =
     let p : List ℕ = drop from s in
     let z : List ℕ = replicate 128 0 in

@@ -13,9 +13,10 @@ use lib.Seq.{sets, drop-cons, drop-drop, length-take-le}
 use Rattle.fields.specs.Tests.{pick}
 use Rattle.refusal.specs.declared.Refusal.the-variants.{TooLong}
 use Rattle.blake2b.specs.Calls.{limit}
-use Rattle.blake2b.specs.Running.{pushed, pushes, stored, storedAll, flushed, fed}
+use Rattle.blake2b.specs.Running.{fed}
+use Rattle.blake2b.specs.Inside.{pushed, pushes, bufferedByte, buffered, flushed}
 use Rattle.blake2b.specs.declared.running.Hasher.{Hasher}
-use Rattle.blake2b.specs.declared.Answer.the-variants.{Done, Refused}
+use Rattle.refusal.specs.declared.Answer.the-variants.{Done, Refused}
 
 pub pick-true : {A : Type 0} (t : Bool) (a b : A) → t ≡ true → pick t a b ≡ a
 pick-true t a b e = ap (λ (u : Bool). pick u a b) e
@@ -23,11 +24,11 @@ pick-true t a b e = ap (λ (u : Bool). pick u a b) e
 pub pick-false : {A : Type 0} (t : Bool) (a b : A) → t ≡ false → pick t a b ≡ b
 pick-false t a b e = ap (λ (u : Bool). pick u a b) e
 
-pub pushed-room : (s : Hasher) (b : ℕ) → s .len < 128 → pushed s b ≡ stored s b
+pub pushed-room : (s : Hasher) (b : ℕ) → s .len < 128 → pushed s b ≡ bufferedByte s b
 unfolding pushed
 pushed-room s b room = pick-true _ _ _ (lt-ltb (s .len) 128 room)
 
-pub pushed-full : (s : Hasher) (b : ℕ) → 128 ≤ s .len → pushed s b ≡ stored (flushed s) b
+pub pushed-full : (s : Hasher) (b : ℕ) → 128 ≤ s .len → pushed s b ≡ bufferedByte (flushed s) b
 unfolding pushed
 pushed-full s b full = pick-false _ _ _ (le-ltb (s .len) 128 full)
 
@@ -37,19 +38,19 @@ pushes-append s [] b = refl
 pushes-append s (x ∷ a) b = pushes-append (pushed s x) a b
 
 -- bytes for which the buffer has room
-stores : (s : Hasher) (bs : List ℕ) → s .len + length bs ≤ 128 → pushes s bs ≡ storedAll s bs
+stores : (s : Hasher) (bs : List ℕ) → s .len + length bs ≤ 128 → pushes s bs ≡ buffered s bs
 unfolding pushes
 stores s [] room = λ i. record { h = s .h; buf = s .buf; len = sym (add-zero (s .len)) i; total = sym (add-zero (s .total)) i }
 stores s (b ∷ bs) room =
     let l : s .len + 1 + length bs ≡ s .len + suc (length bs) = omega arith in
     let t : s .total + 1 + length bs ≡ s .total + suc (length bs) = omega arith in
     ap (λ (x : Hasher). pushes x bs) (pushed-room s b (omega arith))
-    ∙ stores (stored s b) bs (omega arith)
+    ∙ stores (bufferedByte s b) bs (omega arith)
     ∙ (λ i. record { h = s .h; buf = sets (set (s .buf) (s .len) b) (add-one (s .len) i) bs; len = l i; total = t i })
 
 -- the next k bytes of a list, as a part of it that is lent
 pub push-part : (s : Hasher) (bs : List ℕ) (i k : ℕ) → s .len + k ≤ 128 → i + k ≤ length bs
-    → pushes (storedAll s (take (i + k - i) (drop i bs))) (drop (i + k) bs) ≡ pushes s (drop i bs)
+    → pushes (buffered s (take (i + k - i) (drop i bs))) (drop (i + k) bs) ≡ pushes s (drop i bs)
 push-part s bs i k room within =
     let e : i + k - i ≡ k = omega arith in
     let n : length (take k (drop i bs)) ≡ k = length-take-le k (drop i bs) (rw length-drop (omega arith)) in

@@ -10,24 +10,19 @@ use native.Mathlib.Omega.{arith}
 use lib.Dec.{leb, lit<}
 use lib.ListN.{length, getD, set, replicate, length-append, length-set, List·getD-append, List·getD-eq-default}
 use lib.Seq.{ext-getD, getD-set-same, getD-set-other, getD-append-seam}
-use Rattle.rfc7693.specs.Rfc7693.{F, tab, chain, block, digest, hash, before}
+use Rattle.fields.proofs.Cases.{side}
+use Rattle.rfc7693.specs.Rfc7693.{F, tab, absorbed, block, digest, hash, fullBlocks}
 use Rattle.fields.specs.Tests.{pick}
 use Rattle.refusal.specs.declared.Refusal.the-variants.{TooLong}
-use Rattle.blake2b.specs.declared.Answer.the-variants.{Done, Refused}
+use Rattle.refusal.specs.declared.Answer.the-variants.{Done, Refused}
 use Rattle.blake2b.specs.Calls.{limit}
-use Rattle.blake2b.specs.Running.{rest, stateAt, after, pushed, pushes, finished, fed, fedAfter, Feeds}
+use Rattle.blake2b.specs.Running.{blockFrom, stateAt, stateAfter, finished, fed, fedAfter, Feeds}
+use Rattle.blake2b.specs.Inside.{pushed, pushes}
 use Rattle.blake2b.specs.declared.running.Hasher.{Hasher}
 use Rattle.blake2b.specs.declared.running.Fed.{Fed}
 use Rattle.rfc7693.proofs.Laws.{getD-tab, length-tab, tab-ext, block-same, chain-more}
 use Rattle.blake2b.proofs.Padding.{block-rest}
 use Rattle.blake2b.proofs.Pushes.{pushed-room, pushed-full}
-
-le-or-lt′ : (l i : ℕ) (t : Bool) → leb l i ≡ t → (l ≤ i) ⊎ (i < l)
-le-or-lt′ l i true e = inl (leb-true l i e)
-le-or-lt′ l i false e = inr (leb-false l i e)
-
-pub le-or-lt : (l i : ℕ) → (l ≤ i) ⊎ (i < l)
-le-or-lt l i = le-or-lt′ l i (leb l i) refl
 
 length-snoc : (s : List ℕ) (b : ℕ) → length (s ++ (b ∷ [])) ≡ length s + 1
 length-snoc s b = length-append s (b ∷ [])
@@ -36,16 +31,16 @@ length-snoc s b = length-append s (b ∷ [])
 block-prefix : (s t : List ℕ) (k : ℕ) → 128 * k + 128 ≤ length s → block (s ++ t) (128 * k) ≡ block s (128 * k)
 block-prefix s t k h = block-same (s ++ t) s (128 * k) (128 * k) (λ n lt. List·getD-append s t 0 (128 * k + n) (omega arith))
 
-chain-prefix : (s t : List ℕ) (k : ℕ) → 128 * k ≤ length s → chain (s ++ t) k ≡ chain s k
-unfolding chain
+chain-prefix : (s t : List ℕ) (k : ℕ) → 128 * k ≤ length s → absorbed (s ++ t) k ≡ absorbed s k
+unfolding absorbed
 chain-prefix s t zero h = refl
 chain-prefix s t (suc k) h =
     ap₂ (λ (p q : List ℕ). F p q (128 * suc k) false) (chain-prefix s t k (omega arith)) (block-prefix s t k (omega arith))
 
 -- one more byte in a buffer
 rest-at : (s : List ℕ) (b a l : ℕ) → a + l ≡ length s → l < 128 → (i : ℕ) → i < 128
-    → getD (s ++ (b ∷ [])) (a + i) 0 ≡ getD (set (rest s a) l b) i 0
-unfolding rest
+    → getD (s ++ (b ∷ [])) (a + i) 0 ≡ getD (set (blockFrom s a) l b) i 0
+unfolding blockFrom
 rest-at s b a l e lt i h =
     let f : ℕ → ℕ = λ j. getD s (a + j) 0 in
     let long : length (tab 128 f) ≡ 128 = length-tab f 128 in
@@ -59,10 +54,10 @@ rest-at s b a l e lt i h =
     let under : i < l → getD (s ++ (b ∷ [])) (a + i) 0 ≡ getD (set (tab 128 f) l b) i 0 =
     λ less. List·getD-append s (b ∷ []) 0 (a + i) (omega arith)
     ∙ sym (getD-set-other (tab 128 f) l i b 0 (λ p. omega arith) ∙ getD-tab f 128 i h) in
-    ⊎-elim (λ le. ⊎-elim here past (eq-or-lt-of-le le)) under (le-or-lt l i)
+    ⊎-elim under (λ le. ⊎-elim here past (eq-or-lt-of-le le)) (side i l)
 
-rest-snoc : (s : List ℕ) (b a l : ℕ) → a + l ≡ length s → l < 128 → rest (s ++ (b ∷ [])) a ≡ set (rest s a) l b
-unfolding rest
+rest-snoc : (s : List ℕ) (b a l : ℕ) → a + l ≡ length s → l < 128 → blockFrom (s ++ (b ∷ [])) a ≡ set (blockFrom s a) l b
+unfolding blockFrom
 rest-snoc s b a l e lt =
     let f : ℕ → ℕ = λ j. getD (s ++ (b ∷ [])) (a + j) 0 in
     let g : ℕ → ℕ = λ j. getD s (a + j) 0 in
@@ -70,8 +65,8 @@ rest-snoc s b a l e lt =
     ext-getD 0 (tab 128 f) (set (tab 128 g) l b) (n ∙ sym (length-set (tab 128 g) l b ∙ length-tab g 128))
     (λ i h. let small : i < 128 = omega arith in getD-tab f 128 i small ∙ rest-at s b a l e lt i small)
 
-rest-none : (s : List ℕ) (a : ℕ) → length s ≤ a → rest s a ≡ replicate 128 0
-unfolding rest tab
+rest-none : (s : List ℕ) (a : ℕ) → length s ≤ a → blockFrom s a ≡ replicate 128 0
+unfolding blockFrom tab
 rest-none s a h = tab-ext (λ j. getD s (a + j) 0) (λ j. 0) 128 (λ k lt. List·getD-eq-default s 0 (omega arith))
 
 -- one byte on, into a buffer that has room
@@ -95,37 +90,37 @@ one-full s b k full =
     let r = rest-snoc s b (128 * (k + 1)) 0 (omega arith) (lit< tt) ∙ ap (λ (x : List ℕ). set x 0 b) (rest-none s (128 * (k + 1)) (omega arith)) in
     pushed-full (stateAt s k) b (omega arith) ∙ (λ i. record { h = h i; buf = sym r i; len = l i; total = sym n i })
 
-push-one : (s : List ℕ) (b : ℕ) → pushed (after s) b ≡ after (s ++ (b ∷ []))
-unfolding before
+push-one : (s : List ℕ) (b : ℕ) → pushed (stateAfter s) b ≡ stateAfter (s ++ (b ∷ []))
+unfolding fullBlocks
 push-one s b =
     let n : length (s ++ (b ∷ [])) ≡ length s + 1 = length-snoc s b in
     ⊎-elim
-    (λ full.
-    let e : before (length s) + 1 ≡ before (length (s ++ (b ∷ []))) = omega arith in
-    one-full s b (before (length s)) (omega arith) ∙ ap (stateAt (s ++ (b ∷ []))) e)
     (λ room.
-    let e : before (length s) ≡ before (length (s ++ (b ∷ []))) = omega arith in
-    one-room s b (before (length s)) (omega arith) room ∙ ap (stateAt (s ++ (b ∷ []))) e)
-    (le-or-lt 128 (length s - 128 * before (length s)))
+    let e : fullBlocks (length s) ≡ fullBlocks (length (s ++ (b ∷ []))) = omega arith in
+    one-room s b (fullBlocks (length s)) (omega arith) room ∙ ap (stateAt (s ++ (b ∷ []))) e)
+    (λ full.
+    let e : fullBlocks (length s) + 1 ≡ fullBlocks (length (s ++ (b ∷ []))) = omega arith in
+    one-full s b (fullBlocks (length s)) (omega arith) ∙ ap (stateAt (s ++ (b ∷ []))) e)
+    (side (length s - 128 * fullBlocks (length s)) 128)
 
-push-all : (s t : List ℕ) → pushes (after s) t ≡ after (s ++ t)
+push-all : (s t : List ℕ) → pushes (stateAfter s) t ≡ stateAfter (s ++ t)
 unfolding pushes
-push-all s [] = ap after (sym (append-nil s))
+push-all s [] = ap stateAfter (sym (append-nil s))
 push-all s (b ∷ t) =
-    ap (λ (x : Hasher). pushes x t) (push-one s b) ∙ push-all (s ++ (b ∷ [])) t ∙ ap after (append-assoc s (b ∷ []) t)
+    ap (λ (x : Hasher). pushes x t) (push-one s b) ∙ push-all (s ++ (b ∷ [])) t ∙ ap stateAfter (append-assoc s (b ∷ []) t)
 
 -- bytes fed to the state that a message left
-feeds : (s : Hasher) (m bs : List ℕ) → s ≡ after m → fed s bs ≡ fedAfter m bs
+feeds : (s : Hasher) (m bs : List ℕ) → s ≡ stateAfter m → fed s bs ≡ fedAfter m bs
 unfolding fed fedAfter
-feeds s m bs e = ap (λ (x : Hasher). fed x bs) e ∙ ap (λ (x : Hasher). pick (leb (length m + length bs) limit) (record { hasher = x; answer = Done }) (record { hasher = after m; answer = Refused TooLong })) (push-all m bs)
+feeds s m bs e = ap (λ (x : Hasher). fed x bs) e ∙ ap (λ (x : Hasher). pick (leb (length m + length bs) limit) (record { hasher = x; answer = Done }) (record { hasher = stateAfter m; answer = Refused TooLong })) (push-all m bs)
 
 -- the contract of `feed`, from its answer on any state
 pub fed-is : (s : Hasher) (bs : List ℕ) {r : Fed} → r ≡ fed s bs → Feeds s bs r bs
 fed-is s bs e = record { answers = e; continues = λ m h. e ∙ feeds s m bs h; keeps = refl }
 
 -- the digest of the state that a message left
-pub ends : (s : Hasher) (m : List ℕ) → s ≡ after m → finished s ≡ hash m
+pub ends : (s : Hasher) (m : List ℕ) → s ≡ stateAfter m → finished s ≡ hash m
 unfolding finished hash
 ends s m e =
     ap finished e
-    ∙ ap (λ (x : List ℕ). digest (F (chain m (before (length m))) x (length m) true)) (block-rest m (128 * before (length m)))
+    ∙ ap (λ (x : List ℕ). digest (F (absorbed m (fullBlocks (length m))) x (length m) true)) (block-rest m (128 * fullBlocks (length m)))

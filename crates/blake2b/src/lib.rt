@@ -6,16 +6,9 @@ pub use message::hash;
 pub use message::hash_32;
 pub use message::hash_32_32;
 pub use message::hash_byte_32;
-use refusal::Refusal;
 pub use rfc7693::compress;
 pub use running::Fed;
 pub use running::Hasher;
 
 // The most bytes that the hash takes in all.
 pub const LIMIT: usize = 4096;
-
-// What the hash of a message answers, and what feeding a running hash does.
-pub enum Answer {
-    Done,
-    Refused(Refusal),
-}

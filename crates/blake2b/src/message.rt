@@ -5,10 +5,10 @@ ghost use mathlib.Core.List.{_++_, _∷_};
 ghost use Prim.Native.Nat.{_+_, _*_, _≤_};
 ghost use lib.ListN.{length};
 ghost use Rattle.rfc7693.specs.Rfc7693 as spec;
-ghost use Rattle.blake2b.specs.Running.{rest};
+ghost use Rattle.blake2b.specs.Running.{blockFrom};
 ghost use Rattle.blake2b.specs.Calls.{Hashes, limit};
-use crate::Answer;
 use crate::LIMIT;
+use refusal::Answer;
 use refusal::Refusal;
 use rfc7693::compress;
 use rfc7693::words::emit;
@@ -16,7 +16,7 @@ use rfc7693::words::words;
 
 // The state before the first block.
 pub(crate) fn first() -> [u64; 8]
-    ensures { λ r. ⌜ r ≡ spec.first ⌝ }
+    ensures { λ r. ⌜ r ≡ spec.firstState ⌝ }
 {
     [
         0x6a09e667f2bdc928,
@@ -42,7 +42,7 @@ fn step(h: [u64; 8], s: &[u8], k: usize) -> [u64; 8]
 // The state after the first n blocks of a message that has more.
 fn chain(s: &[u8], n: usize) -> [u64; 8]
     requires { ⌜ (128 * n ≤ length (now s)) × (length (now s) ≤ limit) ⌝ }
-    ensures { λ r. ⌜ r ≡ spec.chain (now (s .entry)) n ⌝ }
+    ensures { λ r. ⌜ r ≡ spec.absorbed (now (s .entry)) n ⌝ }
 {
     let mut h = first();
     let mut k: usize = 0;
@@ -57,7 +57,7 @@ fn chain(s: &[u8], n: usize) -> [u64; 8]
 // The last block's bytes, at most 128 of them, with zeros after them.
 fn padded(s: &[u8], from: usize) -> [u8; 128]
     requires { ⌜ (from ≤ length (now s)) × (length (now s) ≤ from + 128) ⌝ }
-    ensures { λ r. ⌜ r ≡ rest (now (s .entry)) from ⌝ }
+    ensures { λ r. ⌜ r ≡ blockFrom (now (s .entry)) from ⌝ }
 {
     let mut out = [0u8; 128];
     fields::write(&mut out, 0, &s[from..]);
@@ -66,7 +66,7 @@ fn padded(s: &[u8], from: usize) -> [u8; 128]
 
 // How many blocks stand before the last one.
 fn before(n: usize) -> usize
-    ensures { λ r. ⌜ r ≡ spec.before n ⌝ }
+    ensures { λ r. ⌜ r ≡ spec.fullBlocks n ⌝ }
 {
     if n == 0 { 0 } else { (n - 1) / 128 }
 }

@@ -4,10 +4,11 @@ ghost use mathlib.Core.List.{[]};
 ghost use Prim.Native.Nat.{_+_, _<_, _≤_};
 ghost use lib.ListN.{length};
 ghost use Rattle.blake2b.specs.Calls.{limit};
-ghost use Rattle.blake2b.specs.Running.{Digests, Feeds, after, flushed, pushes, storedAll};
-use crate::Answer;
+ghost use Rattle.blake2b.specs.Running.{Digests, Feeds, stateAfter};
+ghost use Rattle.blake2b.specs.Inside.{flushed, pushes, buffered};
 use crate::LIMIT;
 use crate::message::first;
+use refusal::Answer;
 use refusal::Refusal;
 use rfc7693::compress;
 use rfc7693::words::emit;
@@ -35,7 +36,7 @@ fn least(a: usize, b: usize) -> usize
 
 impl Hasher {
     pub fn new() -> Self
-        ensures { λ r. ⌜ r ≡ after [] ⌝ }
+        ensures { λ r. ⌜ r ≡ stateAfter [] ⌝ }
     {
         Hasher {
             h: first(),
@@ -62,7 +63,7 @@ impl Hasher {
     // Bytes go into the buffer, which has room for them.
     fn store(self, bytes: &[u8]) -> Self
         requires { ⌜ (self .len + length (now bytes) ≤ 128) × (self .total + length (now bytes) ≤ limit) ⌝ }
-        ensures { λ r. ⌜ r ≡ storedAll self (now (bytes .entry)) ⌝ }
+        ensures { λ r. ⌜ r ≡ buffered self (now (bytes .entry)) ⌝ }
     {
         let h = self.h;
         let mut buf = self.buf;

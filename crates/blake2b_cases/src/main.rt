@@ -2,13 +2,13 @@
 ghost use mathlib.Core.Path.{_≡_};
 ghost use Prim.Native.Nat.{_<_, _≤_};
 ghost use lib.ListN.{length};
-use blake2b::Answer;
 use blake2b::Fed;
 use blake2b::Hasher;
 use cases::end_line;
 use cases::show_field;
 use cases::show_number;
 use libc::STDOUT_FILENO;
+use refusal::Answer;
 
 fn show_answer(answer: Answer, digest: [u8; 32]) {
     match answer {

@@ -11,14 +11,14 @@ use Rattle.refusal.specs.declared.Refusal.{Refusal}
 use Rattle.refusal.specs.declared.Refusal.the-variants.{TooLong}
 use Rattle.rfc7693.specs.Rfc7693.{hash}
 use Rattle.blake2b.specs.Calls.{limit}
-use Rattle.blake2b.specs.Running.{after, fedAfter, Digests}
-use Rattle.blake2b.specs.declared.Answer.the-variants.{Done, Refused}
+use Rattle.blake2b.specs.Running.{stateAfter, fedAfter, Digests}
+use Rattle.refusal.specs.declared.Answer.the-variants.{Done, Refused}
 use Rattle.blake2b.specs.declared.running.Fed.{Fed}
 use Rattle.blake2b_race.specs.Race.{digestOr}
 
 -- what feeding answers, by the test of the length
 abbrev outcome : Bool → List ℕ → Fed
-outcome b m = pick b (record { hasher = after m; answer = Done }) (record { hasher = after []; answer = Refused TooLong })
+outcome b m = pick b (record { hasher = stateAfter m; answer = Done }) (record { hasher = stateAfter []; answer = Refused TooLong })
 
 taken-as : (b : Bool) (m out d : List ℕ) (r : Fed) → r ≡ outcome b m → r .answer ≡ Done → Digests (r .hasher) d → d ≡ pick b (hash m) out
 taken-as true m out d r e told g = g .ends m (ap (λ (x : Fed). x .hasher) e)

@@ -1,7 +1,7 @@
 // What `make bench` races besides kes_hash: the running hash fed in one piece, and the form that joins two hashes. No part of the library.
 ghost use Rattle.blake2b_race.specs.Race.{RunsOnce, Joins};
-use blake2b::Answer;
 use blake2b::Hasher;
+use refusal::Answer;
 
 // The digest of the message, fed in one piece; above 4,096 bytes nothing is written.
 #[no_mangle]

@@ -1,8 +1,46 @@
-// What the programs that only test share: digests of what they compare, the words of a line, and tallies to call from.
+// What the programs that only test share: a seed, tallies to call from, digests of what they compare, the words of a line, and requests.
 ghost use mathlib.Core.Path.{_≡_};
-ghost use lib.ListN.{replicate};
+ghost use Prim.Native.Nat.{_≤_};
+ghost use lib.ListN.{length, replicate};
 ghost use Rattle.blake2b.specs.Calls.{hashOutcome};
+use libc::STDIN_FILENO;
 use libc::STDOUT_FILENO;
+
+// The seed that keys and trees grow from.
+pub const SEED: [u8; 32] = [
+    1,
+    2,
+    3,
+    4,
+    5,
+    6,
+    7,
+    8,
+    9,
+    10,
+    11,
+    12,
+    13,
+    14,
+    15,
+    16,
+    17,
+    18,
+    19,
+    20,
+    21,
+    22,
+    23,
+    24,
+    25,
+    26,
+    27,
+    28,
+    29,
+    30,
+    31,
+    32,
+];
 
 // A tally from which the stand-in answers every call that a case makes.
 pub const ANSWERED: u64 = 1000;
@@ -25,19 +63,34 @@ pub fn show_number(n: u64) {
     io::print_decimal(STDOUT_FILENO, n);
 }
 
-fn wide(b: u8) -> u64 {
-    b as u64
-}
-
 pub fn show_field(field: [u8; 32]) {
     io::write_all(STDOUT_FILENO, b" ");
     let mut i: usize = 0;
     while i < 32 {
-        io::print_hex(STDOUT_FILENO, wide(field[i]), 2);
+        io::print_hex(STDOUT_FILENO, fields::wide(field[i]) as u64, 2);
         i += 1;
     }
 }
 
 pub fn end_line() {
     io::write_all(STDOUT_FILENO, b"\n");
+}
+
+// Reads a request from standard input: a head, and the message whose length its last two bytes say, lowest first. Answers that length; 4,097 where the
+// request is cut off or its message longer than 4,096.
+pub fn read_request(head: &mut [u8], message: &mut [u8]) -> usize
+    requires { ⌜ (2 ≤ length (now head)) × (length (now message) ≡ 4096) ⌝ }
+{
+    let end = head.len();
+    if io::read_full(STDIN_FILENO, head) < end {
+        return 4097;
+    }
+    let size = fields::get_two(head, end - 2);
+    if size > 4096 {
+        return 4097;
+    }
+    if io::read_full(STDIN_FILENO, &mut message[0..size]) < size {
+        return 4097;
+    }
+    size
 }

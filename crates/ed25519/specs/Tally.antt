@@ -1,6 +1,5 @@
 -- Request 4, the tally: which number a module call is made at, and what a run of such calls comes to.
 use mathlib.Core.Path.{_≡_}
-use mathlib.Core.List.{List}
 use mathlib.Core.Bool.{Bool, true, false, _&&_}
 use Prim.Native.Nat.{ℕ, zero, suc, _+_, _-_, _%_, _^_}
 use Rattle.fields.specs.Tests.{pick}
@@ -19,15 +18,6 @@ pub record Run : Type 0 where
 unfoldable pub asked : ℕ → ℕ → Run
 asked zero t = record { given = true; tally = t }
 asked (suc n) t = pick (answered t) (asked n (next t)) (record { given = false; tally = next t })
-
--- work of n calls, from tally t on, tells whether all were answered and leaves the tally t′
-pub record Asks (n t : ℕ) (given : Bool) (t′ : ℕ) : Type 0 where
-  pub tells : given ≡ asked n t .given
-  pub leaves : t′ ≡ asked n t .tally
-
--- what such work leaves of lent bytes: `done` where every call was answered, else what was there
-pub record Leaves (given : Bool) (done was left : List ℕ) : Type 0 where
-  pub is : left ≡ pick given done was
 
 -- In the words of request 4. How many numbers are passed from the tally t at entry up to but without that at exit, t′:
 abbrev pub passed : ℕ → ℕ → ℕ

@@ -1,4 +1,4 @@
-// The seam to Ed25519, which stands in a module that may be out of reach. Under the gate a stand-in answers; the desk build puts the C library in its place.
+// The outside calls, to an Ed25519 that stands in a module which may be out of reach. Under the gate a stand-in answers; the desk build puts the C library in its place.
 ghost use mathlib.Core.Path.{_≡_};
 ghost use mathlib.Core.Bool.{true};
 ghost use Rattle.ed25519.specs.Ed25519.{accepts, answered, publicKey, signature};

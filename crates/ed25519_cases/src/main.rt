@@ -1,11 +1,9 @@
-// Runs cases through the seam: standard input holds requests, standard output gets their answers.
+// Runs cases through the outside calls: standard input holds requests, standard output gets their answers.
 // A request is a byte (0 public key, 1 sign, 2 verify), 32 bytes of secret or key, 64 of signature, the message's length in 2, lowest first, and the message.
 // Where no signature is judged, the first 8 of the 64 are the tally, lowest first. An answer to 0 and 1 is one byte, 1 for given and 0 for not, the tally left
 // in 8, lowest first, and where given the 32-byte key or the 64-byte signature; to 2 it is one byte, 1 for accepted and 0 for not.
 ghost use mathlib.Core.Path.{_≡_};
-ghost use Prim.Native.Nat.{_≤_};
 ghost use lib.ListN.{length};
-use libc::STDIN_FILENO;
 use libc::STDOUT_FILENO;
 
 fn main() {
@@ -31,14 +29,8 @@ fn serve(head: &mut [u8], message: &mut [u8])
 fn serve_one(head: &mut [u8], message: &mut [u8]) -> bool
     requires { ⌜ (length (now head) ≡ 99) × (length (now message) ≡ 4096) ⌝ }
 {
-    if io::read_full(STDIN_FILENO, head) < 99 {
-        return false;
-    }
-    let size = wide(head[97]) + 256 * wide(head[98]);
+    let size = cases::read_request(head, message);
     if size > 4096 {
-        return false;
-    }
-    if io::read_full(STDIN_FILENO, &mut message[0..size]) < size {
         return false;
     }
     answer(head, &message[0..size])
@@ -104,10 +96,4 @@ fn answer(head: &[u8], message: &[u8]) -> bool
         return io::write_all(STDOUT_FILENO, &verdict);
     }
     false
-}
-
-fn wide(b: u8) -> usize
-    ensures { λ r. ⌜ r ≤ 255 ⌝ }
-{
-    b as usize
 }

@@ -14,7 +14,7 @@ use Rattle.rules.specs.declared.Grown.{Grown}
 use Rattle.rules.specs.declared.Grown.the-variants.{Done, Refused}
 use Rattle.rules.proofs.Positive.{make-positive, move-positive}
 use Rattle.rules.proofs.Unanswered.{make-tallied-done, move-tallied-done}
-use Rattle.edge.specs.Edge.{word, EdgeMakes, EdgeMoves}
+use Rattle.edge.specs.Edge.{toldWord, EdgeMakes, EdgeMoves}
 
 -- no refusal has the number 0, and all are small
 in-range : (why : Refusal) → (0 < numberOf why) × (numberOf why ≤ 9)
@@ -32,11 +32,11 @@ low : (a : Grown) → grownTold a .number < 0x1_0000_0000
 low (Done n) = omega arith
 low (Refused why) = let r = in-range why .1 in omega arith
 
-swapped : (x : Told) → word x ≡ x .count * 0x1_0000_0000 + x .number
+swapped : (x : Told) → toldWord x ≡ x .count * 0x1_0000_0000 + x .number
 swapped x = omega arith
 
 -- the halves of a word
-module _ {w : ℕ} (a : Grown) (e : w ≡ word (grownTold a)) where
+module _ {w : ℕ} (a : Grown) (e : w ≡ toldWord (grownTold a)) where
   pub word-number : w % 0x1_0000_0000 ≡ grownTold a .number
   word-number = ap (λ (x : ℕ). x % 0x1_0000_0000) (e ∙ swapped (grownTold a)) ∙ digits-mod (grownTold a .count) (low a)
 
@@ -48,7 +48,7 @@ counted : (a : Grown) → ((n : ℕ) → a ≡ Done n → 0 < n) → grownTold a
 counted (Done n) f z = f n refl
 counted (Refused why) f z = let r = in-range why .0 in absurd (let q : ⊥ = omega arith in q)
 
-done-counts : {w : ℕ} (a : Grown) → w ≡ word (grownTold a) → ((n : ℕ) → a ≡ Done n → 0 < n) → w % 0x1_0000_0000 ≡ 0 → 0 < w / 0x1_0000_0000
+done-counts : {w : ℕ} (a : Grown) → w ≡ toldWord (grownTold a) → ((n : ℕ) → a ≡ Done n → 0 < n) → w % 0x1_0000_0000 ≡ 0 → 0 < w / 0x1_0000_0000
 done-counts a e f z = rw (word-count a e) (counted a f (sym (word-number a e) ∙ z))
 
 pub make-counts : (h1 h2 : ℕ) (s d : List ℕ) (t : ℕ) {w : ℕ} {s′ d′ : List ℕ} {t′ : ℕ} → EdgeMakes h1 h2 s d t w s′ d′ t′ → w % 0x1_0000_0000 ≡ 0

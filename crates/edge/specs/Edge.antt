@@ -3,16 +3,17 @@ use Prim.Native.Nat.{ℕ, _+_, _*_}
 use mathlib.Core.Path.{_≡_}
 use mathlib.Core.List.{List}
 use Rattle.blake2b.specs.Calls as blake2b
-use Rattle.rules.specs.Answers.{Told, grownTold, answerNumber, verdictNumber}
+use Rattle.refusal.specs.Numbers.{answerNumber}
+use Rattle.rules.specs.Answers.{Told, grownTold, verdictNumber}
 use Rattle.rules.specs.Calls.{makeOutcome, makeTallied, keyOutcome, moveOutcome, moveTallied, signOutcome, signTallied, verifyOutcome}
 use Rattle.ed25519.specs.Tally.{Run, asked}
 
 -- make and move answer number + 2^32 * count
-abbrev pub word : Told → ℕ
-word x = x .number + 0x1_0000_0000 * x .count
+abbrev pub toldWord : Told → ℕ
+toldWord x = x .number + 0x1_0000_0000 * x .count
 
 pub record EdgeMakes (h1 h2 : ℕ) (s d : List ℕ) (t answer : ℕ) (s′ d′ : List ℕ) (t′ : ℕ) : Type 0 where
-  pub answers : answer ≡ word (grownTold (makeTallied h1 h2 s d t .answer))
+  pub answers : answer ≡ toldWord (grownTold (makeTallied h1 h2 s d t .answer))
   pub zeroes : s′ ≡ makeTallied h1 h2 s d t .seed
   pub leaves : d′ ≡ makeTallied h1 h2 s d t .table
   pub tallies : t′ ≡ asked (makeOutcome h1 h2 s d .calls) t .tally
@@ -23,7 +24,7 @@ pub record EdgeReads (d out : List ℕ) (number : ℕ) (d′ out′ : List ℕ) 
   pub leaves : out′ ≡ keyOutcome d out .out
 
 pub record EdgeMoves (d : List ℕ) (b t answer : ℕ) (d′ : List ℕ) (t′ : ℕ) : Type 0 where
-  pub answers : answer ≡ word (grownTold (moveTallied d b t .answer))
+  pub answers : answer ≡ toldWord (grownTold (moveTallied d b t .answer))
   pub leaves : d′ ≡ moveTallied d b t .table
   pub tallies : t′ ≡ asked (moveOutcome d b .calls) t .tally
 
@@ -41,6 +42,6 @@ pub record EdgeVerifies (h1 h2 : ℕ) (k : List ℕ) (t : ℕ) (m x : List ℕ) 
   pub keeps-signature : x′ ≡ verifyOutcome h1 h2 k t m x .signature
 
 pub record EdgeHashes (m out : List ℕ) (number : ℕ) (m′ out′ : List ℕ) : Type 0 where
-  pub numbers : number ≡ blake2b.answerNumber (blake2b.hashOutcome m out .answer)
+  pub numbers : number ≡ answerNumber (blake2b.hashOutcome m out .answer)
   pub keeps : m′ ≡ blake2b.hashOutcome m out .message
   pub leaves : out′ ≡ blake2b.hashOutcome m out .out

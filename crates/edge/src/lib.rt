@@ -71,8 +71,5 @@ pub extern "C" fn kes_verify(
 pub extern "C" fn kes_hash(message: &[u8], digest: &mut [u8]) -> u32
     ensures { λ r. ⌜ EdgeHashes (now (message .entry)) (now (digest .entry)) r (now (message .exit)) (now (digest .exit)) ⌝ }
 {
-    match blake2b::hash(message, digest) {
-        blake2b::Answer::Done => 0,
-        blake2b::Answer::Refused(why) => refusal::number(why),
-    }
+    answered(blake2b::hash(message, digest))
 }

@@ -1,7 +1,8 @@
 // Each answer and verdict as its number.
 ghost use mathlib.Core.Path.{_≡_};
-ghost use Rattle.rules.specs.Answers.{answerNumber, verdictNumber};
-use rules::Answer;
+ghost use Rattle.refusal.specs.Numbers.{answerNumber};
+ghost use Rattle.rules.specs.Answers.{verdictNumber};
+use refusal::Answer;
 use rules::Verdict;
 
 pub(crate) fn answered(answer: Answer) -> u32

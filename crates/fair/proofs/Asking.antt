@@ -4,7 +4,8 @@ use mathlib.Core.Bool.{Bool, true, false, not}
 use Prim.Native.Nat.{ℕ, _+_, _*_, _-_, _<_}
 use native.Mathlib.Omega.{arith}
 use borrow.Author.Tests.{not-true, not-false}
-use Rattle.ed25519.specs.Tally.{Run, asked, Asks}
+use Rattle.ed25519.specs.Tally.{Run, asked}
+use Rattle.ed25519.specs.Inside.{Asks}
 use Rattle.ed25519.proofs.Tally.{then, stop}
 
 -- calls whose answer g the code has tested

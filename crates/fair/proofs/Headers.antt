@@ -7,16 +7,12 @@ use native.Mathlib.Omega.{arith}
 use lib.Dec.{ltb, leb, eqb}
 use lib.ListN.{length}
 use borrow.Author.Tests.{lt-ltb, le-ltb, le-leb, eq-eqb, ltb-true, ltb-false, leb-true, eqb-true, not-true}
+use Rattle.fields.proofs.Cases.{both, neither}
 use Rattle.fields.specs.Numbers.{twoIn}
 use Rattle.refusal.specs.declared.Refusal.the-variants.{Table}
-use Rattle.fair.specs.Cache.{most, outside, headerSize, cacheSize, headerIn, wellFormed, headerOf}
-use Rattle.fair.specs.declared.header.Header.{Header}
-use Rattle.fair.specs.declared.header.Found.the-variants.{Good, Refused}
-
--- N within 1 to 256, and not
-neither : (x y : Bool) → (x || y) ≡ false → (x ≡ false) × (y ≡ false)
-neither false y e = (refl, e)
-neither true y e = absurd (let z : _≡_ {A = ℕ} 0 1 = cc in let q : ⊥ = omega arith in q)
+use Rattle.fair.specs.Cache.{most, outside, cacheHeaderSize, cacheSize, cacheHeaderIn, cacheFormed, cacheHeaderOf}
+use Rattle.fair.specs.declared.header.CacheHeader.{CacheHeader}
+use Rattle.fair.specs.declared.header.CacheFound.the-variants.{Good, Refused}
 
 pub within : (n : ℕ) → outside n ≡ false → (1 ≤ n) × (n ≤ most)
 within n f = let e = neither (ltb n 1) (ltb most n) f in (ltb-false n 1 (e .0), ltb-false most n (e .1))
@@ -32,69 +28,65 @@ never-outside n y l u =
 
 -- a well-formed cache
 pub record Formed (d : List ℕ) : Type 0 where
-  pub long : headerSize ≤ length d
+  pub long : cacheHeaderSize ≤ length d
   pub some : 1 ≤ twoIn d 0
   pub few : twoIn d 0 ≤ most
   pub exact : length d ≡ cacheSize (twoIn d 0)
   pub soon : twoIn d 2 < twoIn d 0
 
-both : (x y : Bool) → (x && y) ≡ true → (x ≡ true) × (y ≡ true)
-both true y e = (refl, e)
-both false y e = absurd (let z : _≡_ {A = ℕ} 0 1 = cc in let q : ⊥ = omega arith in q)
-
 module _ (d : List ℕ) where
-  formed : wellFormed d ≡ true → Formed d
-  unfolding wellFormed headerIn
+  formed : cacheFormed d ≡ true → Formed d
+  unfolding cacheFormed cacheHeaderIn
   formed e =
-      let a = both (leb headerSize (length d)) _ e in
+      let a = both (leb cacheHeaderSize (length d)) _ e in
       let b = both (not (outside (twoIn d 0))) _ (a .1) in
       let c = both (eqb (length d) (cacheSize (twoIn d 0))) _ (b .1) in
       let w = within (twoIn d 0) (not-true (outside (twoIn d 0)) (b .0)) in
       record {
-        long = leb-true headerSize (length d) (a .0);
+        long = leb-true cacheHeaderSize (length d) (a .0);
         some = w .0;
         few = w .1;
         exact = eqb-true (length d) (cacheSize (twoIn d 0)) (c .0);
         soon = ltb-true (twoIn d 2) (twoIn d 0) (c .1);
       }
 
-  pub good : Formed d → headerOf d ≡ Good (headerIn d)
-  unfolding headerOf wellFormed headerIn
+  pub good : Formed d → cacheHeaderOf d ≡ Good (cacheHeaderIn d)
+  unfolding cacheHeaderOf cacheFormed cacheHeaderIn
   good w =
       rw (
-        le-leb headerSize (length d) (w .long),
+        le-leb cacheHeaderSize (length d) (w .long),
         not-outside (twoIn d 0) (w .some) (w .few),
         eq-eqb (length d) (cacheSize (twoIn d 0)) (w .exact),
         lt-ltb (twoIn d 2) (twoIn d 0) (w .soon),
       )
 
-  not-formed : wellFormed d ≡ false → headerOf d ≡ Refused Table
-  unfolding headerOf
+  not-formed : cacheFormed d ≡ false → cacheHeaderOf d ≡ Refused Table
+  unfolding cacheHeaderOf
   not-formed e = rw e
 
-  pub bad : (Formed d → ⊥) → headerOf d ≡ Refused Table
-  bad f = go (wellFormed d) refl
+  pub bad : (Formed d → ⊥) → cacheHeaderOf d ≡ Refused Table
+  bad f = go (cacheFormed d) refl
     where
-      go : (b : Bool) → wellFormed d ≡ b → headerOf d ≡ Refused Table
+      go : (b : Bool) → cacheFormed d ≡ b → cacheHeaderOf d ≡ Refused Table
       go true e = absurd (f (formed e))
       go false e = not-formed e
 
 -- what a good header says
-pub record Whole (d : List ℕ) (x : Header) : Type 0 where
+pub record Whole (d : List ℕ) (x : CacheHeader) : Type 0 where
   pub some : 1 ≤ x .entries
   pub few : x .entries ≤ most
   pub exact : length d ≡ cacheSize (x .entries)
   pub soon : x .step < x .entries
 
-pub whole : (d : List ℕ) {x : Header} → headerOf d ≡ Good x → Whole d x
-unfolding headerIn
-whole d {x} e = go (wellFormed d) refl
+pub whole : (d : List ℕ) {x : CacheHeader} → cacheHeaderOf d ≡ Good x → Whole d x
+unfolding cacheHeaderIn
+whole d {x} e = go (cacheFormed d) refl
   where
-    go : (b : Bool) → wellFormed d ≡ b → Whole d x
+    go : (b : Bool) → cacheFormed d ≡ b → Whole d x
     go true k =
         let w = formed d k in
         let g = good d w in
-        let ex : headerIn d ≡ x = cc in
+        let ex : cacheHeaderIn d ≡ x = cc in
         rw (← ex) (record { some = w .some; few = w .few; exact = w .exact; soon = w .soon })
     go false k =
         let g = not-formed d k in

@@ -14,15 +14,15 @@ use Rattle.fields.proofs.Laws.{length-part, bytes-append, bytes-part}
 use Rattle.fields.proofs.Rows.{rows-length, rows-part}
 use Rattle.blake2b.specs.Calls.{limit}
 use Rattle.ed25519.specs.Ed25519.{publicKey, signature, accepts, publicKey-length, publicKey-bytes, signature-length}
-use Rattle.rules.specs.declared.Answer.the-variants as answer
+use Rattle.refusal.specs.declared.Answer.the-variants as answer
 use Rattle.rules.specs.declared.Verdict.the-variants as verdict
 use Rattle.rules.specs.Runs.{Last, none, at, stepOf}
 use Rattle.rules.specs.Demand3.{Bytes32, Message, AcceptsOwn}
-use Rattle.fair.specs.Entries.{vouched, entrySize, entry, seedIn, entries, signatureSize, entrySignature, fairVerdict}
-use Rattle.fair.specs.Cache.{most, cacheSize, header, headerBytes, bodyIn, entryIn, headerOf, movedBody}
-use Rattle.fair.specs.Calls.{MakeOutcome, made, makeOutcome, MoveOutcome, moveOutcome, SignOutcome, signUnder, signOutcome, VerifyOutcome, verdictOf, verifyOutcome}
-use Rattle.fair.specs.Day.{movedBy, lastAccepted, straightTo, Handed, knownEntries, knownCache, handedFrom, Kept, FairDay}
-use Rattle.fair.specs.declared.header.Found.the-variants.{Good}
+use Rattle.fair.specs.Entries.{vouched, entrySize, entry, lentSeedIn, entries, fairSignatureSize, entrySignature, fairVerdict}
+use Rattle.fair.specs.Cache.{most, cacheSize, cacheHeader, cacheHeaderBytes, cacheBodyIn, entryIn, cacheHeaderOf, movedBody}
+use Rattle.fair.specs.Calls.{FairMakeOutcome, fairMade, fairMakeOutcome, FairMoveOutcome, fairMoveOutcome, FairSignOutcome, fairSignUnder, fairSignOutcome, FairVerifyOutcome, fairVerdictOf, fairVerifyOutcome}
+use Rattle.fair.specs.Day.{fairMovedBy, fairLastAccepted, fairStraightTo, HandedEntry, knownEntries, knownCache, handedFrom, Kept, FairDay}
+use Rattle.fair.specs.declared.header.CacheFound.the-variants.{Good}
 use Rattle.fair.proofs.Headers.{not-outside}
 use Rattle.fair.proofs.Filling.{entry-length}
 use Rattle.fair.proofs.Moving.{moved-length, moved-nowhere, moved-twice, behind, laid-header, laid-body, moved-of, Reached, run}
@@ -53,18 +53,18 @@ vouched-message i vk l b = (omega arith, bytes-append (fourBytes i) vk (four-byt
 -- A DAY of n steps from a and ss
 module _ (n : ℕ) (a ss : List ℕ) (some : 1 ≤ n) (few : n ≤ most) (ba : Bytes32 a) (ls : length ss ≡ 32 * n) (bs : Bytes ss) where
   abbrev each : ℕ → List ℕ
-  each i = entry a i (seedIn ss i)
+  each i = entry a i (lentSeedIn ss i)
 
   each-length : (i : ℕ) → i < n → length (each i) ≡ entrySize
-  each-length i u = entry-length a i (seedIn ss i) (length-part ss (32 * i) 32 (omega arith))
+  each-length i u = entry-length a i (lentSeedIn ss i) (length-part ss (32 * i) 32 (omega arith))
 
   all-length : length (entries a ss n) ≡ entrySize * n
   unfolding entries
-  all-length = rows-length entrySize (λ i. entry a i (seedIn ss i)) n each-length
+  all-length = rows-length entrySize (λ i. entry a i (lentSeedIn ss i)) n each-length
 
   entry-at : (i : ℕ) → i < n → entryIn (entries a ss n) i ≡ each i
   unfolding entries
-  entry-at i u = rows-part entrySize (λ j. entry a j (seedIn ss j)) n each-length i u
+  entry-at i u = rows-part entrySize (λ j. entry a j (lentSeedIn ss j)) n each-length i u
 
   -- the entries from t on are those that are handed
   handed : (k t : ℕ) → t + k ≡ n → drop (entrySize * t) (entries a ss n) ≡ knownEntries (handedFrom a ss t k)
@@ -78,31 +78,31 @@ module _ (n : ℕ) (a ss : List ℕ) (some : 1 ≤ n) (few : n ≤ most) (ba : B
 
   -- the cache at step t
   abbrev cacheAt : ℕ → List ℕ
-  cacheAt t = headerBytes (header n t) ++ movedBody (entries a ss n) t
+  cacheAt t = cacheHeaderBytes (cacheHeader n t) ++ movedBody (entries a ss n) t
 
   module _ (t : ℕ) (u : t < n) where
-    header-at : headerOf (cacheAt t) ≡ Good (header n t)
+    header-at : cacheHeaderOf (cacheAt t) ≡ Good (cacheHeader n t)
     header-at = laid-header n t (movedBody (entries a ss n) t) some few u (moved-length (entries a ss n) n t all-length (omega arith))
 
     known-at : cacheAt t ≡ knownCache n t (handedFrom a ss t (n - t))
     unfolding knownCache movedBody
     known-at = rw (handed (n - t) t (omega arith))
 
-    reach-at : (b : ℕ) → t < b → b < n → moveOutcome (cacheAt t) b .answer ≡ answer.Done
-    reach-at b lt lb = ap (λ (o : MoveOutcome). o .answer) (moved-of (cacheAt t) (header n t) header-at b lb lt)
+    reach-at : (b : ℕ) → t < b → b < n → fairMoveOutcome (cacheAt t) b .answer ≡ answer.Done
+    reach-at b lt lb = ap (λ (o : FairMoveOutcome). o .answer) (moved-of (cacheAt t) (cacheHeader n t) header-at b lb lt)
 
-    present : entryIn (bodyIn (cacheAt t)) t ≡ each t
+    present : entryIn (cacheBodyIn (cacheAt t)) t ≡ each t
     present =
-        rw (laid-body (header n t) (movedBody (entries a ss n) t), behind (entries a ss n) t t (omega arith)) (entry-at t u)
+        rw (laid-body (cacheHeader n t) (movedBody (entries a ss n) t), behind (entries a ss n) t t (omega arith)) (entry-at t u)
 
-    sign-at : (m out : List ℕ) → length m ≤ limit → length out ≡ signatureSize
-        → signOutcome (cacheAt t) m out ≡ record { calls = 1; answer = answer.Done; cache = cacheAt t; message = m; out = entrySignature (each t) m }
-    unfolding signOutcome signUnder
-    sign-at m out lm lo = rw (header-at, le-ltb limit (length m) lm, eq-eqb (length out) signatureSize lo, present)
+    sign-at : (m out : List ℕ) → length m ≤ limit → length out ≡ fairSignatureSize
+        → fairSignOutcome (cacheAt t) m out ≡ record { calls = 1; answer = answer.Done; cache = cacheAt t; message = m; out = entrySignature (each t) m }
+    unfolding fairSignOutcome fairSignUnder
+    sign-at m out lm lo = rw (header-at, le-ltb limit (length m) lm, eq-eqb (length out) fairSignatureSize lo, present)
 
     -- what is signed at t
     abbrev s : List ℕ
-    s = seedIn ss t
+    s = lentSeedIn ss t
 
     abbrev vk : List ℕ
     vk = publicKey s
@@ -120,7 +120,7 @@ module _ (n : ℕ) (a ss : List ℕ) (some : 1 ≤ n) (few : n ≤ most) (ba : B
         let lk = publicKey-length s in
         rw (first-back x s vk 32 lx seed-length lk, second-back x s vk 32 lx seed-length lk, third-back x s vk 32 lx seed-length lk)
 
-    size-is : (m : List ℕ) → length (entrySignature (each t) m) ≡ signatureSize
+    size-is : (m : List ℕ) → length (entrySignature (each t) m) ≡ fairSignatureSize
     size-is m =
         rw (signature-is m, length-append, length-append, signature-length, publicKey-length, signature-length)
 
@@ -135,15 +135,15 @@ module _ (n : ℕ) (a ss : List ℕ) (some : 1 ≤ n) (few : n ≤ most) (ba : B
         let second = own s m (seed-length, bytes-part ss (32 * t) 32 bs) lm in
         rw (signature-is m, first-back x vk y 64 lx lk ly, second-back x vk y 64 lx lk ly, third-back x vk y 64 lx lk ly, first, second)
 
-    accept-at : AcceptsOwn → (m out : List ℕ) → Message m → length out ≡ signatureSize
-        → verifyOutcome n (publicKey a) t m (signOutcome (cacheAt t) m out .out) .answer ≡ verdict.Accepted
-    unfolding verifyOutcome verdictOf
+    accept-at : AcceptsOwn → (m out : List ℕ) → Message m → length out ≡ fairSignatureSize
+        → fairVerifyOutcome n (publicKey a) t m (fairSignOutcome (cacheAt t) m out .out) .answer ≡ verdict.Accepted
+    unfolding fairVerifyOutcome fairVerdictOf
     accept-at own m out lm lo =
         rw (
           sign-at m out (lm .0) lo,
           not-outside n some few,
           eq-eqb (length (publicKey a)) 32 (publicKey-length a),
-          eq-eqb (length (entrySignature (each t) m)) signatureSize (size-is m),
+          eq-eqb (length (entrySignature (each t) m)) fairSignatureSize (size-is m),
           le-ltb limit (length m) (lm .0),
           lt-leb n t u,
           told own m lm,
@@ -151,39 +151,39 @@ module _ (n : ℕ) (a ss : List ℕ) (some : 1 ≤ n) (few : n ≤ most) (ba : B
 
   -- made, and moved by a list of moves
   module _ (d k : List ℕ) (ld : length d ≡ cacheSize n) (lk : length k ≡ 32) where
-    made-at : makeOutcome n a ss d k ≡ made n a ss
-    unfolding makeOutcome
+    made-at : fairMakeOutcome n a ss d k ≡ fairMade n a ss
+    unfolding fairMakeOutcome
     made-at =
         rw (not-outside n some few, eq-eqb (length a) 32 (ba .0), eq-eqb (length ss) (32 * n) ls, eq-eqb (length d) (cacheSize n) ld, eq-eqb (length k) 32 lk)
 
-    cache-made : makeOutcome n a ss d k .cache ≡ cacheAt 0
-    cache-made = ap (λ (o : MakeOutcome). o .cache) made-at ∙ rw (moved-nowhere (entries a ss n))
+    cache-made : fairMakeOutcome n a ss d k .cache ≡ cacheAt 0
+    cache-made = ap (λ (o : FairMakeOutcome). o .cache) made-at ∙ rw (moved-nowhere (entries a ss n))
 
-    key-made : makeOutcome n a ss d k .key ≡ publicKey a
-    key-made = ap (λ (o : MakeOutcome). o .key) made-at
+    key-made : fairMakeOutcome n a ss d k .key ≡ publicKey a
+    key-made = ap (λ (o : FairMakeOutcome). o .key) made-at
 
   -- a reached step lies in the day, and the cache made, moved straight there, is the cache at it
-  soon : (y : Last) → Reached (cacheAt 0) (header n 0) (header-at 0 some) y → stepOf y < n
+  soon : (y : Last) → Reached (cacheAt 0) (cacheHeader n 0) (header-at 0 some) y → stepOf y < n
   soon none r = some
   soon (at t) r = r .1
 
-  straight-at : (y : Last) → Reached (cacheAt 0) (header n 0) (header-at 0 some) y → straightTo (cacheAt 0) y ≡ cacheAt (stepOf y)
+  straight-at : (y : Last) → Reached (cacheAt 0) (cacheHeader n 0) (header-at 0 some) y → fairStraightTo (cacheAt 0) y ≡ cacheAt (stepOf y)
   straight-at none r = refl
   straight-at (at t) r =
-      ap (λ (o : MoveOutcome). o .cache) (moved-of (cacheAt 0) (header n 0) (header-at 0 some) t (r .1) (r .0))
-      ∙ rw (laid-body (header n 0) (movedBody (entries a ss n) 0), moved-twice (entries a ss n) 0 t (omega arith))
+      ap (λ (o : FairMoveOutcome). o .cache) (moved-of (cacheAt 0) (cacheHeader n 0) (header-at 0 some) t (r .1) (r .0))
+      ∙ rw (laid-body (cacheHeader n 0) (movedBody (entries a ss n) 0), moved-twice (entries a ss n) 0 t (omega arith))
 
-  kept : (asked : List ℕ) → Kept n a ss (cacheAt 0) (publicKey a) (movedBy (cacheAt 0) asked) (lastAccepted (cacheAt 0) asked)
+  kept : (asked : List ℕ) → Kept n a ss (cacheAt 0) (publicKey a) (fairMovedBy (cacheAt 0) asked) (fairLastAccepted (cacheAt 0) asked)
   kept asked =
-      let y = lastAccepted (cacheAt 0) asked in
-      let r = run (cacheAt 0) (header n 0) (header-at 0 some) asked in
+      let y = fairLastAccepted (cacheAt 0) asked in
+      let r = run (cacheAt 0) (cacheHeader n 0) (header-at 0 some) asked in
       let u = soon y (r .0) in
-      let e : movedBy (cacheAt 0) asked ≡ cacheAt (stepOf y) = r .1 ∙ straight-at y (r .0) in
+      let e : fairMovedBy (cacheAt 0) asked ≡ cacheAt (stepOf y) = r .1 ∙ straight-at y (r .0) in
       record {
         straight = r .1;
         follows = e ∙ known-at (stepOf y) u;
         reaches = λ t lt lb. rw e (reach-at (stepOf y) u t lt lb);
-        signs = λ m out lm lo. rw e (ap (λ (o : SignOutcome). o .answer) (sign-at (stepOf y) u m out lm lo));
+        signs = λ m out lm lo. rw e (ap (λ (o : FairSignOutcome). o .answer) (sign-at (stepOf y) u m out lm lo));
         accepts = λ own m out lm lo. rw e (accept-at (stepOf y) u own m out lm lo);
       }
 

@@ -13,16 +13,16 @@ use Rattle.fields.proofs.Digits.{two-back}
 use Rattle.fields.proofs.Laws.{part-front}
 use Rattle.refusal.specs.declared.Refusal.{Refusal}
 use Rattle.refusal.specs.declared.Refusal.the-variants.{NotLater, PastEnd}
-use Rattle.rules.specs.declared.Answer.the-variants as answer
+use Rattle.refusal.specs.declared.Answer.the-variants as answer
 use Rattle.rules.specs.Runs.{Last, none, at}
 use Rattle.rules.proofs.Machine.{follows}
 use Rattle.fair.specs.Entries.{entrySize}
-use Rattle.fair.specs.Cache.{most, header, headerBytes, headerIn, bodyIn, entryIn, headerOf, cleared, movedBody}
-use Rattle.fair.specs.Calls.{MoveOutcome, notMoved, moved, moveUnder, moveOutcome}
-use Rattle.fair.specs.Day.{accepted, moveLeaves, moveTells, movedBy, lastAccepted, straightTo, CutAnyhow, Erased, Erases}
-use Rattle.fair.specs.declared.header.Header.{Header}
-use Rattle.fair.specs.declared.header.Found.{Found}
-use Rattle.fair.specs.declared.header.Found.the-variants.{Good, Refused}
+use Rattle.fair.specs.Cache.{most, cacheHeader, cacheHeaderBytes, cacheHeaderIn, cacheBodyIn, entryIn, cacheHeaderOf, cleared, movedBody}
+use Rattle.fair.specs.Calls.{FairMoveOutcome, notFairMoved, fairMoved, fairMoveUnder, fairMoveOutcome}
+use Rattle.fair.specs.Day.{fairAccepted, fairMoveLeaves, fairMoveTells, fairMovedBy, fairLastAccepted, fairStraightTo, CutAnyhow, Erased, Erases}
+use Rattle.fair.specs.declared.header.CacheHeader.{CacheHeader}
+use Rattle.fair.specs.declared.header.CacheFound.{CacheFound}
+use Rattle.fair.specs.declared.header.CacheFound.the-variants.{Good, Refused}
 use Rattle.fair.proofs.Headers.{Formed, good, Whole, whole}
 
 -- the body of a cache that was moved
@@ -52,43 +52,43 @@ moved-nowhere b = refl
 
 -- A header with as many entries behind it as it says.
 module _ (n t : ℕ) (b : List ℕ) (some : 1 ≤ n) (few : n ≤ most) (soon : t < n) (lb : length b ≡ entrySize * n) where
-  pub laid-header : headerOf (headerBytes (header n t) ++ b) ≡ Good (header n t)
-  unfolding headerBytes headerIn twoIn
+  pub laid-header : cacheHeaderOf (cacheHeaderBytes (cacheHeader n t) ++ b) ≡ Good (cacheHeader n t)
+  unfolding cacheHeaderBytes cacheHeaderIn twoIn
   laid-header =
       let en = two-back n (omega arith) in
       let et = two-back t (omega arith) in
-      let w : Formed (headerBytes (header n t) ++ b) =
+      let w : Formed (cacheHeaderBytes (cacheHeader n t) ++ b) =
       record { long = omega arith; some = rw en some; few = rw en few; exact = rw en (omega arith); soon = rw (en, et) soon } in
-      good (headerBytes (header n t) ++ b) w ∙ rw (en, et)
+      good (cacheHeaderBytes (cacheHeader n t) ++ b) w ∙ rw (en, et)
 
-pub laid-body : (x : Header) (b : List ℕ) → bodyIn (headerBytes x ++ b) ≡ b
-unfolding headerBytes
+pub laid-body : (x : CacheHeader) (b : List ℕ) → cacheBodyIn (cacheHeaderBytes x ++ b) ≡ b
+unfolding cacheHeaderBytes
 laid-body x b = refl
 
 -- the cases of a move of a well-formed cache
-module _ (d : List ℕ) (x : Header) (g : headerOf d ≡ Good x) (t : ℕ) where
-  pub late-of : x .entries ≤ t → moveOutcome d t ≡ notMoved PastEnd d
-  unfolding moveOutcome moveUnder
+module _ (d : List ℕ) (x : CacheHeader) (g : cacheHeaderOf d ≡ Good x) (t : ℕ) where
+  pub late-of : x .entries ≤ t → fairMoveOutcome d t ≡ notFairMoved PastEnd d
+  unfolding fairMoveOutcome fairMoveUnder
   late-of p = rw (g, le-leb (x .entries) t p)
 
-  pub not-later-of : t < x .entries → t ≤ x .step → moveOutcome d t ≡ notMoved NotLater d
-  unfolding moveOutcome moveUnder
+  pub not-later-of : t < x .entries → t ≤ x .step → fairMoveOutcome d t ≡ notFairMoved NotLater d
+  unfolding fairMoveOutcome fairMoveUnder
   not-later-of u p = rw (g, lt-leb (x .entries) t u, le-leb t (x .step) p)
 
-  pub moved-of : t < x .entries → x .step < t → moveOutcome d t ≡ moved x t d
-  unfolding moveOutcome moveUnder
+  pub moved-of : t < x .entries → x .step < t → fairMoveOutcome d t ≡ fairMoved x t d
+  unfolding fairMoveOutcome fairMoveUnder
   moved-of u p = rw (g, lt-leb (x .entries) t u, lt-leb t (x .step) p)
 
 -- any move of any bytes is refused, or moves a well-formed cache to a later step
 pub data Move (d : List ℕ) (t : ℕ) : Type 0 where
-  refused : (why : Refusal) → moveOutcome d t ≡ notMoved why d → Move d t
-  done : (x : Header) → headerOf d ≡ Good x → x .step < t → t < x .entries → moveOutcome d t ≡ moved x t d → Move d t
+  refused : (why : Refusal) → fairMoveOutcome d t ≡ notFairMoved why d → Move d t
+  done : (x : CacheHeader) → cacheHeaderOf d ≡ Good x → x .step < t → t < x .entries → fairMoveOutcome d t ≡ fairMoved x t d → Move d t
 
 pub move-of : (d : List ℕ) (t : ℕ) → Move d t
-unfolding moveOutcome moveUnder
-move-of d t = go (headerOf d) refl
+unfolding fairMoveOutcome fairMoveUnder
+move-of d t = go (cacheHeaderOf d) refl
   where
-    go : (f : Found) → headerOf d ≡ f → Move d t
+    go : (f : CacheFound) → cacheHeaderOf d ≡ f → Move d t
     go (Refused why) e = refused why (rw e)
     go (Good x) e = elim (decLt t (x .entries)) [
       | no f ↦ refused PastEnd (late-of d x e t (omega arith))
@@ -121,19 +121,19 @@ entry-zeroed b t i u =
 pub erases : Erases
 erases d t = go (move-of d t)
   where
-    go : Move d t → moveOutcome d t .answer ≡ answer.Done → Erased d (moveOutcome d t .cache) t
+    go : Move d t → fairMoveOutcome d t .answer ≡ answer.Done → Erased d (fairMoveOutcome d t .cache) t
     go (refused why e) a =
-        let q : answer.Refused why ≡ answer.Done = ap (λ (o : MoveOutcome). o .answer) (sym e) ∙ a in
+        let q : answer.Refused why ≡ answer.Done = ap (λ (o : FairMoveOutcome). o .answer) (sym e) ∙ a in
         absurd (let z : _≡_ {A = ℕ} 0 1 = cc in let v : ⊥ = omega arith in v)
     go (done x g p u e) a =
-        let body : bodyIn (moveOutcome d t .cache) ≡ movedBody (bodyIn d) t = rw e (laid-body (header (x .entries) t) (movedBody (bodyIn d) t)) in
+        let body : cacheBodyIn (fairMoveOutcome d t .cache) ≡ movedBody (cacheBodyIn d) t = rw e (laid-body (cacheHeader (x .entries) t) (movedBody (cacheBodyIn d) t)) in
         record {
-          untouched = λ i l. rw (body, behind (bodyIn d) t i l);
-          zeroed = λ i l. rw body (entry-zeroed (bodyIn d) t i l);
+          untouched = λ i l. rw (body, behind (cacheBodyIn d) t i l);
+          zeroed = λ i l. rw body (entry-zeroed (cacheBodyIn d) t i l);
         }
 
 -- THE LAW. A state is the last accepted step; its bytes are the cache moved straight there.
-module _ (d : List ℕ) (x : Header) (g : headerOf d ≡ Good x) where
+module _ (d : List ℕ) (x : CacheHeader) (g : cacheHeaderOf d ≡ Good x) where
   w : Whole d x
   w = whole d g
 
@@ -142,78 +142,78 @@ module _ (d : List ℕ) (x : Header) (g : headerOf d ≡ Good x) where
   Reached none = Unit {0}
   Reached (at t) = (x .step < t) × (t < x .entries)
 
-  abbrev Fits : Last → ℕ → MoveOutcome → Type 0
-  Fits y t o = Reached (accepted (o .answer) t y) × (o .cache ≡ straightTo d (accepted (o .answer) t y))
+  abbrev Fits : Last → ℕ → FairMoveOutcome → Type 0
+  Fits y t o = Reached (fairAccepted (o .answer) t y) × (o .cache ≡ fairStraightTo d (fairAccepted (o .answer) t y))
 
-  body-length : length (bodyIn d) ≡ entrySize * x .entries
+  body-length : length (cacheBodyIn d) ≡ entrySize * x .entries
   body-length = let v = w in rw length-drop (omega arith)
 
-  first : (t : ℕ) → Fits none t (moveOutcome d t)
-  unfolding accepted
+  first : (t : ℕ) → Fits none t (fairMoveOutcome d t)
+  unfolding fairAccepted
   first t = go (move-of d t)
     where
-      go : Move d t → Fits none t (moveOutcome d t)
+      go : Move d t → Fits none t (fairMoveOutcome d t)
       go (refused why e) = subst (Fits none t) (sym e) (tt, refl)
       go (done y gy p u e) =
           let exy : y ≡ x = cc in
-          subst (Fits none t) (sym e) ((rw exy at p, rw exy at u), ap (λ (o : MoveOutcome). o .cache) (sym e))
+          subst (Fits none t) (sym e) ((rw exy at p, rw exy at u), ap (λ (o : FairMoveOutcome). o .cache) (sym e))
 
   -- the cache moved straight to s is well formed, at s
   module _ (s : ℕ) (ps : x .step < s) (us : s < x .entries) where
-    there-is : straightTo d (at s) ≡ headerBytes (header (x .entries) s) ++ movedBody (bodyIn d) s
-    there-is = ap (λ (o : MoveOutcome). o .cache) (moved-of d x g s us ps)
+    there-is : fairStraightTo d (at s) ≡ cacheHeaderBytes (cacheHeader (x .entries) s) ++ movedBody (cacheBodyIn d) s
+    there-is = ap (λ (o : FairMoveOutcome). o .cache) (moved-of d x g s us ps)
 
-    there-good : headerOf (straightTo d (at s)) ≡ Good (header (x .entries) s)
+    there-good : cacheHeaderOf (fairStraightTo d (at s)) ≡ Good (cacheHeader (x .entries) s)
     there-good =
         let v = w in
         rw there-is
-        (laid-header (x .entries) s (movedBody (bodyIn d) s) (v .some) (v .few) us (moved-length (bodyIn d) (x .entries) s body-length (omega arith)))
+        (laid-header (x .entries) s (movedBody (cacheBodyIn d) s) (v .some) (v .few) us (moved-length (cacheBodyIn d) (x .entries) s body-length (omega arith)))
 
-    later : (t : ℕ) → Fits (at s) t (moveOutcome (straightTo d (at s)) t)
-    unfolding accepted
-    later t = go (move-of (straightTo d (at s)) t)
+    later : (t : ℕ) → Fits (at s) t (fairMoveOutcome (fairStraightTo d (at s)) t)
+    unfolding fairAccepted
+    later t = go (move-of (fairStraightTo d (at s)) t)
       where
-        go : Move (straightTo d (at s)) t → Fits (at s) t (moveOutcome (straightTo d (at s)) t)
+        go : Move (fairStraightTo d (at s)) t → Fits (at s) t (fairMoveOutcome (fairStraightTo d (at s)) t)
         go (refused why e) = subst (Fits (at s) t) (sym e) ((ps, us), refl)
         go (done y gy p u e) =
-            let ey : y ≡ header (x .entries) s = cc there-good in
+            let ey : y ≡ cacheHeader (x .entries) s = cc there-good in
             let ps′ : s < t = rw ey at p in
             let us′ : t < x .entries = rw ey at u in
             let ps″ : x .step < t = omega arith in
-            let straight = ap (λ (o : MoveOutcome). o .cache) (moved-of d x g t us′ ps″) in
-            let again : moved y t (straightTo d (at s)) .cache ≡ headerBytes (header (x .entries) t) ++ movedBody (bodyIn d) t =
-            rw (ey, there-is, laid-body (header (x .entries) s) (movedBody (bodyIn d) s), moved-twice (bodyIn d) s t (omega arith)) in
+            let straight = ap (λ (o : FairMoveOutcome). o .cache) (moved-of d x g t us′ ps″) in
+            let again : fairMoved y t (fairStraightTo d (at s)) .cache ≡ cacheHeaderBytes (cacheHeader (x .entries) t) ++ movedBody (cacheBodyIn d) t =
+            rw (ey, there-is, laid-body (cacheHeader (x .entries) s) (movedBody (cacheBodyIn d) s), moved-twice (cacheBodyIn d) s t (omega arith)) in
             subst (Fits (at s) t) (sym e) ((ps″, us′), again ∙ sym straight)
 
-  one : (y : Last) (t : ℕ) → Reached y → Fits y t (moveOutcome (straightTo d y) t)
+  one : (y : Last) (t : ℕ) → Reached y → Fits y t (fairMoveOutcome (fairStraightTo d y) t)
   one none t f = first t
   one (at s) t f = later s (f .0) (f .1) t
 
-  pub run : (asked : List ℕ) → Reached (lastAccepted d asked) × (movedBy d asked ≡ straightTo d (lastAccepted d asked))
-  run asked = follows moveLeaves moveTells Reached (straightTo d) one asked none tt
+  pub run : (asked : List ℕ) → Reached (fairLastAccepted d asked) × (fairMovedBy d asked ≡ fairStraightTo d (fairLastAccepted d asked))
+  run asked = follows fairMoveLeaves fairMoveTells Reached (fairStraightTo d) one asked none tt
 
 -- bytes that are no cache stay
-module _ (d : List ℕ) (why : Refusal) (r : headerOf d ≡ Refused why) where
-  refusing : (t : ℕ) → moveOutcome d t ≡ notMoved why d
-  unfolding moveOutcome moveUnder
+module _ (d : List ℕ) (why : Refusal) (r : cacheHeaderOf d ≡ Refused why) where
+  refusing : (t : ℕ) → fairMoveOutcome d t ≡ notFairMoved why d
+  unfolding fairMoveOutcome fairMoveUnder
   refusing t = rw r
 
   abbrev Still : Last → Type 0
   Still y = y ≡ none
 
-  abbrev Stays : Last → ℕ → MoveOutcome → Type 0
-  Stays y t o = Still (accepted (o .answer) t y) × (o .cache ≡ straightTo d (accepted (o .answer) t y))
+  abbrev Stays : Last → ℕ → FairMoveOutcome → Type 0
+  Stays y t o = Still (fairAccepted (o .answer) t y) × (o .cache ≡ fairStraightTo d (fairAccepted (o .answer) t y))
 
-  still : (y : Last) (t : ℕ) → Still y → Stays y t (moveOutcome (straightTo d y) t)
-  unfolding accepted
+  still : (y : Last) (t : ℕ) → Still y → Stays y t (fairMoveOutcome (fairStraightTo d y) t)
+  unfolding fairAccepted
   still y t f = rw f (subst (Stays none t) (sym (refusing t)) (refl, refl))
 
-  pub stays : (asked : List ℕ) → movedBy d asked ≡ straightTo d (lastAccepted d asked)
-  stays asked = follows moveLeaves moveTells Still (straightTo d) still asked none refl .1
+  pub stays : (asked : List ℕ) → fairMovedBy d asked ≡ fairStraightTo d (fairLastAccepted d asked)
+  stays asked = follows fairMoveLeaves fairMoveTells Still (fairStraightTo d) still asked none refl .1
 
 pub cut-anyhow : CutAnyhow
-cut-anyhow d asked = go (headerOf d) refl
+cut-anyhow d asked = go (cacheHeaderOf d) refl
   where
-    go : (f : Found) → headerOf d ≡ f → movedBy d asked ≡ straightTo d (lastAccepted d asked)
+    go : (f : CacheFound) → cacheHeaderOf d ≡ f → fairMovedBy d asked ≡ fairStraightTo d (fairLastAccepted d asked)
     go (Refused why) e = stays d why e asked
     go (Good x) e = run d x e asked .1

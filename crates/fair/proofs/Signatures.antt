@@ -8,9 +8,9 @@ use lib.ListN.{length, drop-of-length-le}
 use Rattle.fields.specs.Fields.{part, put}
 use Rattle.fields.proofs.Laws.{length-part, put-three}
 use Rattle.ed25519.specs.Ed25519.{signature, accepts}
-use Rattle.fair.specs.Entries.{vouched, entrySize, signedIn, secretIn, vkIn, signatureSize, entrySignature, fairVerdict}
+use Rattle.fair.specs.Entries.{vouched, entrySize, entrySignedIn, entrySecretIn, entryVkIn, fairSignatureSize, entrySignature, fairVerdict}
 
-pub signed-by : (e m out : List ℕ) {x s vk own o₁ o₂ o₃ : List ℕ} → length e ≡ entrySize → length out ≡ signatureSize → x ≡ signedIn e → s ≡ secretIn e → vk ≡ vkIn e
+pub signed-by : (e m out : List ℕ) {x s vk own o₁ o₂ o₃ : List ℕ} → length e ≡ entrySize → length out ≡ fairSignatureSize → x ≡ entrySignedIn e → s ≡ entrySecretIn e → vk ≡ entryVkIn e
     → own ≡ signature s m → o₁ ≡ put out 0 64 x → o₂ ≡ put o₁ 64 32 vk → o₃ ≡ put o₂ 96 64 own → o₃ ≡ entrySignature e m
 unfolding entrySignature
 signed-by e m out {x} {s} {vk} {own} le lo ex es ek eo e₁ e₂ e₃ =

@@ -12,59 +12,60 @@ use Rattle.refusal.specs.declared.Refusal.{Refusal}
 use Rattle.refusal.specs.declared.Refusal.the-variants.{Unanswered}
 use Rattle.ed25519.specs.Tally.{Run, asked, passed, Exactly}
 use Rattle.ed25519.proofs.Passed.{nine, passes}
-use Rattle.rules.specs.Answers.{answerNumber}
-use Rattle.rules.specs.declared.Answer.{Answer}
-use Rattle.rules.specs.declared.Answer.the-variants.{Refused}
+use Rattle.refusal.specs.Numbers.{answerNumber}
+use Rattle.refusal.specs.declared.Answer.{Answer}
+use Rattle.refusal.specs.declared.Answer.the-variants.{Refused}
 use Rattle.rules.proofs.Unanswered.{says-pick, heard}
-use Rattle.rules.proofs.Untouched.{of-listed, answer-not}
+use Rattle.fields.proofs.Lists.{of-listed}
+use Rattle.rules.proofs.Untouched.{answer-not}
 use Rattle.fair.specs.Cache.{most}
-use Rattle.fair.specs.Calls.{Makes, MakeOutcome, notMade, makeOutcome, makeTallied, Signs, SignOutcome, notSigned, signOutcome, signTallied}
-use Rattle.fair.specs.Listed.{makeListed, signListed}
+use Rattle.fair.specs.Calls.{FairMakes, FairMakeOutcome, notFairMade, fairMakeOutcome, fairMakeTallied, FairSigns, FairSignOutcome, notFairSigned, fairSignOutcome, fairSignTallied}
+use Rattle.fair.specs.Listed.{fairMakeListed, fairSignListed}
 use Rattle.fair.proofs.Once.{make-listed, sign-listed}
 
 -- make
 module _ (n : ℕ) (a ss d k : List ℕ) where
-  make-not-9 : makeOutcome n a ss d k .answer ≡ Refused Unanswered → ⊥
+  make-not-9 : fairMakeOutcome n a ss d k .answer ≡ Refused Unanswered → ⊥
   make-not-9 e =
-      of-listed (λ (o : MakeOutcome). answerNumber (o .answer) ≡ 9 → ⊥) (makeListed n a ss d k)
+      of-listed (λ (o : FairMakeOutcome). answerNumber (o .answer) ≡ 9 → ⊥) (fairMakeListed n a ss d k)
       (λ z. omega arith, (λ z. omega arith, (λ z. omega arith, (λ z. omega arith, tt)))) (make-listed n a ss d k)
       (ap answerNumber e)
 
-  make-few : makeOutcome n a ss d k .calls ≤ 2 * n + 1
+  make-few : fairMakeOutcome n a ss d k .calls ≤ 2 * n + 1
   make-few =
-      of-listed (λ (o : MakeOutcome). o .calls ≤ 2 * n + 1) (makeListed n a ss d k)
+      of-listed (λ (o : FairMakeOutcome). o .calls ≤ 2 * n + 1) (fairMakeListed n a ss d k)
       (omega arith, (omega arith, (omega arith, (omega arith, tt)))) (make-listed n a ss d k)
 
   -- above most it is refused
-  make-small : makeOutcome n a ss d k .calls < 2 ^ 64
-  unfolding makeOutcome
+  make-small : fairMakeOutcome n a ss d k .calls < 2 ^ 64
+  unfolding fairMakeOutcome
   make-small = elim (decLt most n) [
     | yes l ↦ rw (le-ltb n 1 (omega arith), lt-ltb most n l) (omega arith)
     | no f ↦ let l = make-few in omega arith
   ]
 
-  make-refused : (why : Refusal) → makeOutcome n a ss d k .answer ≡ Refused why → makeOutcome n a ss d k .calls ≡ 0
+  make-refused : (why : Refusal) → fairMakeOutcome n a ss d k .answer ≡ Refused why → fairMakeOutcome n a ss d k .calls ≡ 0
   make-refused why =
-      of-listed (λ (o : MakeOutcome). o .answer ≡ Refused why → o .calls ≡ 0) (makeListed n a ss d k)
+      of-listed (λ (o : FairMakeOutcome). o .answer ≡ Refused why → o .calls ≡ 0) (fairMakeListed n a ss d k)
       (λ e. refl, (λ e. refl, (λ e. refl, (λ e. absurd (answer-not e), tt)))) (make-listed n a ss d k)
 
-  module _ {t t′ : ℕ} {r : Answer} {a′ ss′ d′ k′ : List ℕ} (m : Makes n a ss d k t r a′ ss′ d′ k′ t′) where
-    make-chosen : r ≡ pick (asked (makeOutcome n a ss d k .calls) t .given) (makeOutcome n a ss d k .answer) (Refused Unanswered)
-    unfolding makeTallied
+  module _ {t t′ : ℕ} {r : Answer} {a′ ss′ d′ k′ : List ℕ} (m : FairMakes n a ss d k t r a′ ss′ d′ k′ t′) where
+    make-chosen : r ≡ pick (asked (fairMakeOutcome n a ss d k .calls) t .given) (fairMakeOutcome n a ss d k .answer) (Refused Unanswered)
+    unfolding fairMakeTallied
     make-chosen =
-        m .answers ∙ says-pick (λ (o : MakeOutcome). o .answer) (makeOutcome n a ss d k) (notMade Unanswered a ss d k) (asked (makeOutcome n a ss d k .calls) t .given)
+        m .answers ∙ says-pick (λ (o : FairMakeOutcome). o .answer) (fairMakeOutcome n a ss d k) (notFairMade Unanswered a ss d k) (asked (fairMakeOutcome n a ss d k .calls) t .given)
 
     pub make-nine : t < 2 ^ 64 → Exactly (r ≡ Refused Unanswered) t t′
-    make-nine u = nine (makeOutcome n a ss d k .calls) t u make-small make-not-9 make-chosen (m .tallies)
+    make-nine u = nine (fairMakeOutcome n a ss d k .calls) t u make-small make-not-9 make-chosen (m .tallies)
 
     pub make-passes : t < 2 ^ 64 → passed t t′ ≤ 2 * n + 1
-    make-passes u = passes (makeOutcome n a ss d k .calls) t u make-small (m .tallies) make-few
+    make-passes u = passes (fairMakeOutcome n a ss d k .calls) t u make-small (m .tallies) make-few
 
-    pub make-given : (r ≡ Refused Unanswered → ⊥) → let o = makeOutcome n a ss d k in
+    pub make-given : (r ≡ Refused Unanswered → ⊥) → let o = fairMakeOutcome n a ss d k in
         (r ≡ o .answer) × (a′ ≡ o .master) × (ss′ ≡ o .seeds) × (d′ ≡ o .cache) × (k′ ≡ o .key)
-    unfolding makeTallied
+    unfolding fairMakeTallied
     make-given f =
-        let y = heard (makeOutcome n a ss d k .answer) (asked (makeOutcome n a ss d k .calls) t .given) make-chosen f in
+        let y = heard (fairMakeOutcome n a ss d k .answer) (asked (fairMakeOutcome n a ss d k .calls) t .given) make-chosen f in
         (m .answers ∙ rw y, m .zeroes-master ∙ rw y, m .zeroes-seeds ∙ rw y, m .leaves ∙ rw y, m .writes-key ∙ rw y)
 
     pub make-tally-left : {why : Refusal} → r ≡ Refused why → (r ≡ Refused Unanswered → ⊥) → t′ ≡ t
@@ -73,41 +74,41 @@ module _ (n : ℕ) (a ss d k : List ℕ) where
 
 -- sign
 module _ (d m out : List ℕ) where
-  sign-not-9 : signOutcome d m out .answer ≡ Refused Unanswered → ⊥
+  sign-not-9 : fairSignOutcome d m out .answer ≡ Refused Unanswered → ⊥
   sign-not-9 e =
-      of-listed (λ (o : SignOutcome). answerNumber (o .answer) ≡ 9 → ⊥) (signListed d m out)
+      of-listed (λ (o : FairSignOutcome). answerNumber (o .answer) ≡ 9 → ⊥) (fairSignListed d m out)
       (λ z. omega arith, (λ z. omega arith, (λ z. omega arith, (λ z. omega arith, tt)))) (sign-listed d m out)
       (ap answerNumber e)
 
-  sign-few : signOutcome d m out .calls ≤ 1
+  sign-few : fairSignOutcome d m out .calls ≤ 1
   sign-few =
-      of-listed (λ (o : SignOutcome). o .calls ≤ 1) (signListed d m out)
+      of-listed (λ (o : FairSignOutcome). o .calls ≤ 1) (fairSignListed d m out)
       (omega arith, (omega arith, (omega arith, (omega arith, tt)))) (sign-listed d m out)
 
-  sign-refused : (why : Refusal) → signOutcome d m out .answer ≡ Refused why → signOutcome d m out .calls ≡ 0
+  sign-refused : (why : Refusal) → fairSignOutcome d m out .answer ≡ Refused why → fairSignOutcome d m out .calls ≡ 0
   sign-refused why =
-      of-listed (λ (o : SignOutcome). o .answer ≡ Refused why → o .calls ≡ 0) (signListed d m out)
+      of-listed (λ (o : FairSignOutcome). o .answer ≡ Refused why → o .calls ≡ 0) (fairSignListed d m out)
       (λ e. refl, (λ e. refl, (λ e. refl, (λ e. absurd (answer-not e), tt)))) (sign-listed d m out)
 
-  module _ {t t′ : ℕ} {r : Answer} {d′ m′ out′ : List ℕ} (w : Signs d m out t r d′ m′ out′ t′) where
-    sign-chosen : r ≡ pick (asked (signOutcome d m out .calls) t .given) (signOutcome d m out .answer) (Refused Unanswered)
-    unfolding signTallied
+  module _ {t t′ : ℕ} {r : Answer} {d′ m′ out′ : List ℕ} (w : FairSigns d m out t r d′ m′ out′ t′) where
+    sign-chosen : r ≡ pick (asked (fairSignOutcome d m out .calls) t .given) (fairSignOutcome d m out .answer) (Refused Unanswered)
+    unfolding fairSignTallied
     sign-chosen =
-        w .answers ∙ says-pick (λ (o : SignOutcome). o .answer) (signOutcome d m out) (notSigned Unanswered d m out) (asked (signOutcome d m out .calls) t .given)
+        w .answers ∙ says-pick (λ (o : FairSignOutcome). o .answer) (fairSignOutcome d m out) (notFairSigned Unanswered d m out) (asked (fairSignOutcome d m out .calls) t .given)
 
-    small : signOutcome d m out .calls < 2 ^ 64
+    small : fairSignOutcome d m out .calls < 2 ^ 64
     small = let l = sign-few in omega arith
 
     pub sign-nine : t < 2 ^ 64 → Exactly (r ≡ Refused Unanswered) t t′
-    sign-nine u = nine (signOutcome d m out .calls) t u small sign-not-9 sign-chosen (w .tallies)
+    sign-nine u = nine (fairSignOutcome d m out .calls) t u small sign-not-9 sign-chosen (w .tallies)
 
     pub sign-passes : t < 2 ^ 64 → passed t t′ ≤ 1
-    sign-passes u = passes (signOutcome d m out .calls) t u small (w .tallies) sign-few
+    sign-passes u = passes (fairSignOutcome d m out .calls) t u small (w .tallies) sign-few
 
-    pub sign-given : (r ≡ Refused Unanswered → ⊥) → (r ≡ signOutcome d m out .answer) × (out′ ≡ signOutcome d m out .out)
-    unfolding signTallied
+    pub sign-given : (r ≡ Refused Unanswered → ⊥) → (r ≡ fairSignOutcome d m out .answer) × (out′ ≡ fairSignOutcome d m out .out)
+    unfolding fairSignTallied
     sign-given f =
-        let y = heard (signOutcome d m out .answer) (asked (signOutcome d m out .calls) t .given) sign-chosen f in
+        let y = heard (fairSignOutcome d m out .answer) (asked (fairSignOutcome d m out .calls) t .given) sign-chosen f in
         (w .answers ∙ rw y, w .leaves ∙ rw y)
 
     pub sign-tally-left : {why : Refusal} → r ≡ Refused why → (r ≡ Refused Unanswered → ⊥) → t′ ≡ t

@@ -19,28 +19,28 @@ unfoldable pub entry : List ℕ → ℕ → List ℕ → List ℕ
 entry master i s = signature master (vouched i (publicKey s)) ++ (s ++ publicKey s)
 
 -- seed i of those lent, and the entries of the steps 0 to n - 1
-abbrev pub seedIn : List ℕ → ℕ → List ℕ
-seedIn seeds i = part seeds (32 * i) 32
+abbrev pub lentSeedIn : List ℕ → ℕ → List ℕ
+lentSeedIn seeds i = part seeds (32 * i) 32
 
 unfoldable pub entries : List ℕ → List ℕ → ℕ → List ℕ
-entries master seeds n = rows n (λ i. entry master i (seedIn seeds i))
+entries master seeds n = rows n (λ i. entry master i (lentSeedIn seeds i))
 
 -- the fields of an entry e, whatever stands there
-abbrev pub signedIn : List ℕ → List ℕ
-signedIn e = part e 0 64
+abbrev pub entrySignedIn : List ℕ → List ℕ
+entrySignedIn e = part e 0 64
 
-abbrev pub secretIn : List ℕ → List ℕ
-secretIn e = part e 64 32
+abbrev pub entrySecretIn : List ℕ → List ℕ
+entrySecretIn e = part e 64 32
 
-abbrev pub vkIn : List ℕ → List ℕ
-vkIn e = part e 96 32
+abbrev pub entryVkIn : List ℕ → List ℕ
+entryVkIn e = part e 96 32
 
 -- a signature over m by the entry e: the master's signature, vk, the message signature
-abbrev pub signatureSize : ℕ
-signatureSize = 160
+abbrev pub fairSignatureSize : ℕ
+fairSignatureSize = 160
 
 unfoldable pub entrySignature : List ℕ → List ℕ → List ℕ
-entrySignature e m = signedIn e ++ (vkIn e ++ signature (secretIn e) m)
+entrySignature e m = entrySignedIn e ++ (entryVkIn e ++ signature (entrySecretIn e) m)
 
 -- figure 6.1: the first is checked over t then vk, under the master's public key k; the last over the message, under vk
 unfoldable pub fairVerdict : List ℕ → ℕ → List ℕ → List ℕ → Bool

@@ -3,27 +3,27 @@
 use mathlib.Core.List.{List, [], _∷_}
 use Prim.Native.Nat.{ℕ}
 use Rattle.refusal.specs.declared.Refusal.the-variants.{SeedOrKey, Table, Length, NotLater, PastEnd, TooLong, Entries, Unanswered}
-use Rattle.rules.specs.Listed.{beforeLast}
+use Rattle.fields.specs.Lists.{beforeLast}
 use Rattle.rules.specs.declared.Verdict.{Verdict}
 use Rattle.rules.specs.declared.Verdict.the-variants.{Accepted, Rejected, Refused}
-use Rattle.fair.specs.Cache.{headerIn}
-use Rattle.fair.specs.Calls.{MakeOutcome, notMade, made, MoveOutcome, notMoved, moved, SignOutcome, notSigned, signed}
+use Rattle.fair.specs.Cache.{cacheHeaderIn}
+use Rattle.fair.specs.Calls.{FairMakeOutcome, notFairMade, fairMade, FairMoveOutcome, notFairMoved, fairMoved, FairSignOutcome, notFairSigned, fairSigned}
 
-abbrev pub makeListed : ℕ → List ℕ → List ℕ → List ℕ → List ℕ → List MakeOutcome
-makeListed n a ss d k = notMade Entries a ss d k ∷ notMade SeedOrKey a ss d k ∷ notMade Length a ss d k ∷ made n a ss ∷ []
+abbrev pub fairMakeListed : ℕ → List ℕ → List ℕ → List ℕ → List ℕ → List FairMakeOutcome
+fairMakeListed n a ss d k = notFairMade Entries a ss d k ∷ notFairMade SeedOrKey a ss d k ∷ notFairMade Length a ss d k ∷ fairMade n a ss ∷ []
 
-abbrev pub makeTalliedListed : ℕ → List ℕ → List ℕ → List ℕ → List ℕ → List MakeOutcome
-makeTalliedListed n a ss d k = beforeLast (notMade Unanswered a ss d k) (makeListed n a ss d k)
+abbrev pub fairMakeTalliedListed : ℕ → List ℕ → List ℕ → List ℕ → List ℕ → List FairMakeOutcome
+fairMakeTalliedListed n a ss d k = beforeLast (notFairMade Unanswered a ss d k) (fairMakeListed n a ss d k)
 
-abbrev pub moveListed : List ℕ → ℕ → List MoveOutcome
-moveListed d t = notMoved Table d ∷ notMoved PastEnd d ∷ notMoved NotLater d ∷ moved (headerIn d) t d ∷ []
+abbrev pub fairMoveListed : List ℕ → ℕ → List FairMoveOutcome
+fairMoveListed d t = notFairMoved Table d ∷ notFairMoved PastEnd d ∷ notFairMoved NotLater d ∷ fairMoved (cacheHeaderIn d) t d ∷ []
 
-abbrev pub signListed : List ℕ → List ℕ → List ℕ → List SignOutcome
-signListed d m out = notSigned Table d m out ∷ notSigned TooLong d m out ∷ notSigned Length d m out ∷ signed (headerIn d) d m ∷ []
+abbrev pub fairSignListed : List ℕ → List ℕ → List ℕ → List FairSignOutcome
+fairSignListed d m out = notFairSigned Table d m out ∷ notFairSigned TooLong d m out ∷ notFairSigned Length d m out ∷ fairSigned (cacheHeaderIn d) d m ∷ []
 
-abbrev pub signTalliedListed : List ℕ → List ℕ → List ℕ → List SignOutcome
-signTalliedListed d m out = beforeLast (notSigned Unanswered d m out) (signListed d m out)
+abbrev pub fairSignTalliedListed : List ℕ → List ℕ → List ℕ → List FairSignOutcome
+fairSignTalliedListed d m out = beforeLast (notFairSigned Unanswered d m out) (fairSignListed d m out)
 
 -- verify leaves everything lent as it was in every case
-abbrev pub verifyListed : List Verdict
-verifyListed = Refused Entries ∷ Refused SeedOrKey ∷ Refused Length ∷ Refused TooLong ∷ Refused PastEnd ∷ Rejected ∷ Accepted ∷ []
+abbrev pub fairVerifyListed : List Verdict
+fairVerifyListed = Refused Entries ∷ Refused SeedOrKey ∷ Refused Length ∷ Refused TooLong ∷ Refused PastEnd ∷ Rejected ∷ Accepted ∷ []

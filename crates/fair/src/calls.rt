@@ -1,11 +1,11 @@
 // The four calls. Each checks in request 3's order, and writes nothing but the tally before all its checks have passed and Ed25519 has given all that is
 // needed.
-ghost use Rattle.fair.specs.Calls.{Makes, Moves, Signs, Verifies};
+ghost use Rattle.fair.specs.Calls.{FairMakes, FairMoves, FairSigns, FairVerifies};
 use crate::entries::accepted;
 use crate::entries::fill;
 use crate::entries::sign_entry;
-use crate::header::Found;
-use crate::header::Header;
+use crate::header::CacheFound;
+use crate::header::CacheHeader;
 use crate::header::put_header;
 use crate::header::read_header;
 use crate::layout::ENTRY_SIZE;
@@ -14,8 +14,8 @@ use crate::layout::SIGNATURE_SIZE;
 use crate::layout::cache_size;
 use crate::layout::outside;
 use blake2b::LIMIT;
+use refusal::Answer;
 use refusal::Refusal;
-use rules::Answer;
 use rules::Verdict;
 
 // Makes a cache of n entries at step 0 from a master seed and n lent seeds, and writes out the master's public key. All seeds become zeros.
@@ -27,7 +27,7 @@ pub fn make(
     key: &mut [u8],
     tally: &mut u64,
 ) -> Answer
-    ensures { λ r. ⌜ Makes n (now (master .entry)) (now (seeds .entry)) (now (cache .entry)) (now (key .entry)) (now (tally .entry)) r
+    ensures { λ r. ⌜ FairMakes n (now (master .entry)) (now (seeds .entry)) (now (cache .entry)) (now (key .entry)) (now (tally .entry)) r
         (now (master .exit)) (now (seeds .exit)) (now (cache .exit)) (now (key .exit)) (now (tally .exit)) ⌝ }
 {
     let n = n as usize;
@@ -52,7 +52,7 @@ pub fn make(
         return Answer::Refused(Refusal::Unanswered);
     }
     let step = 0;
-    put_header(cache, Header { entries: n, step });
+    put_header(cache, CacheHeader { entries: n, step });
     fields::zero(master);
     fields::zero(seeds);
     Answer::Done
@@ -60,10 +60,10 @@ pub fn make(
 
 // Moves the cache to a later step: every entry below it becomes zeros.
 pub fn move_to(cache: &mut [u8], step: u64) -> Answer
-    ensures { λ r. ⌜ Moves (now (cache .entry)) step r (now (cache .exit)) ⌝ }
+    ensures { λ r. ⌜ FairMoves (now (cache .entry)) step r (now (cache .exit)) ⌝ }
 {
     let found = read_header(cache);
-    let Found::Good(header) = found else {
+    let CacheFound::Good(header) = found else {
         return found.answer();
     };
     let step = step as usize;
@@ -77,17 +77,17 @@ pub fn move_to(cache: &mut [u8], step: u64) -> Answer
     }
     let end = HEADER_SIZE + ENTRY_SIZE * step;
     fields::zero(&mut cache[HEADER_SIZE..end]);
-    put_header(cache, Header { entries, step });
+    put_header(cache, CacheHeader { entries, step });
     Answer::Done
 }
 
 // Writes the signature over message by the cache, at its step.
 pub fn sign(cache: &[u8], message: &[u8], out: &mut [u8], tally: &mut u64) -> Answer
-    ensures { λ r. ⌜ Signs (now (cache .entry)) (now (message .entry)) (now (out .entry)) (now (tally .entry)) r
+    ensures { λ r. ⌜ FairSigns (now (cache .entry)) (now (message .entry)) (now (out .entry)) (now (tally .entry)) r
         (now (cache .exit)) (now (message .exit)) (now (out .exit)) (now (tally .exit)) ⌝ }
 {
     let found = read_header(cache);
-    let Found::Good(header) = found else {
+    let CacheFound::Good(header) = found else {
         return found.answer();
     };
     if LIMIT < message.len() {
@@ -108,7 +108,7 @@ pub fn sign(cache: &[u8], message: &[u8], out: &mut [u8], tally: &mut u64) -> An
 
 // Judges the signature over message at this step of a day of n steps, under the master's public key.
 pub fn verify(n: u64, key: &[u8], step: u64, message: &[u8], signature: &[u8]) -> Verdict
-    ensures { λ r. ⌜ Verifies n (now (key .entry)) step (now (message .entry)) (now (signature .entry)) r
+    ensures { λ r. ⌜ FairVerifies n (now (key .entry)) step (now (message .entry)) (now (signature .entry)) r
         (now (key .exit)) (now (message .exit)) (now (signature .exit)) ⌝ }
 {
     let n = n as usize;

@@ -5,8 +5,8 @@ ghost use Prim.Native.Nat.{_+_, _*_, _<_, _≤_};
 ghost use lib.ListN.{length};
 ghost use Rattle.fields.specs.Fields.{put};
 ghost use Rattle.ed25519.specs.Ed25519.{publicKey};
-ghost use Rattle.ed25519.specs.Tally.{Asks, Leaves};
-ghost use Rattle.fair.specs.Entries.{vouched, entrySize, entries, signatureSize, entrySignature, fairVerdict};
+ghost use Rattle.ed25519.specs.Inside.{Asks, Leaves};
+ghost use Rattle.fair.specs.Entries.{vouched, entrySize, entries, fairSignatureSize, entrySignature, fairVerdict};
 ghost use Rattle.fair.specs.Cache.{most};
 ghost use Rattle.fair.specs.Inside.{publicSize, publicPart, publicParts, joinedEntry, joinedEntries};
 use crate::layout::ENTRY_SIZE;
@@ -136,7 +136,7 @@ pub(crate) fn fill(
 
 // Writes the signature over message by this entry. Answers whether Ed25519 has answered; where it has not, nothing is written.
 pub(crate) fn sign_entry(entry: &[u8], message: &[u8], out: &mut [u8], tally: &mut u64) -> bool
-    requires { ⌜ (length (now entry) ≡ entrySize) × (length (now out) ≡ signatureSize) ⌝ }
+    requires { ⌜ (length (now entry) ≡ entrySize) × (length (now out) ≡ fairSignatureSize) ⌝ }
     ensures { λ r. ⌜ Asks 1 (now (tally .entry)) r (now (tally .exit)) ⌝ }
     ensures { λ r. ⌜ Leaves r (entrySignature (now (entry .entry)) (now (message .entry))) (now (out .entry)) (now (out .exit)) ⌝ }
     ensures { λ _. ⌜ (now (entry .exit) ≡ now (entry .entry)) × (now (message .exit) ≡ now (message .entry)) ⌝ }
@@ -157,7 +157,7 @@ pub(crate) fn sign_entry(entry: &[u8], message: &[u8], out: &mut [u8], tally: &m
 
 // Whether the signature over message is accepted at this step, under the master's public key.
 pub(crate) fn accepted(key: [u8; 32], step: usize, message: &[u8], signature: &[u8]) -> bool
-    requires { ⌜ length (now signature) ≡ signatureSize ⌝ }
+    requires { ⌜ length (now signature) ≡ fairSignatureSize ⌝ }
     ensures { λ r. ⌜ r ≡ fairVerdict key step (now (message .entry)) (now (signature .entry)) ⌝ }
     ensures { λ _. ⌜ (now (message .exit) ≡ now (message .entry)) × (now (signature .exit) ≡ now (signature .entry)) ⌝ }
 {

@@ -10,7 +10,7 @@ use cases::end_line;
 use cases::show_field;
 use cases::show_number;
 use libc::STDOUT_FILENO;
-use rules::Answer;
+use refusal::Answer;
 use rules::Verdict;
 
 // A cache of 257 entries would fit. The contract gives the length alone, so that no goal spells the bytes out.

@@ -10,11 +10,11 @@ use lib.ListN.{length, take, length-append}
 use lib.Seq.{take-at, drop-at, take-append-seam}
 use borrow.Author.Tests.{lt-ltb, le-ltb, eqb-true}
 use Rattle.fields.specs.Tests.{same}
-use Rattle.text.specs.Fields.{before, fields}
+use Rattle.fields.proofs.Cases.{both, side}
+use Rattle.text.specs.Columns.{upTo, columns}
 use Rattle.text.specs.Numerals.{every}
 use Rattle.text.specs.Hex.{isHexDigit, isHexOf}
-use Rattle.text.proofs.Cuts.{side, withTabs, rejoined}
-use Rattle.text.proofs.Reading.{both}
+use Rattle.text.proofs.Cuts.{withTabs, rejoined}
 use Rattle.lines.proofs.First.{NoLf, no-lf-both, no-lf-after, begins, first-lf}
 use Rattle.records.specs.declared.Edition.{Edition}
 use Rattle.records.specs.declared.Edition.the-variants.{Plain, Tabbed}
@@ -46,32 +46,32 @@ unfolding editionIn same wordOf
 says Plain = refl
 says Tabbed = refl
 
-pub word-fields : (e : Edition) (r : List ℕ) → fields (wordOf e ++ (9 ∷ r)) ≡ wordOf e ∷ fields r
-unfolding wordOf fields
+pub word-fields : (e : Edition) (r : List ℕ) → columns (wordOf e ++ (9 ∷ r)) ≡ wordOf e ∷ columns r
+unfolding wordOf columns
 word-fields Plain r = refl
 word-fields Tabbed r = refl
 
-pub full-fields : (e : Edition) (key : List ℕ) → fields key ≡ key ∷ [] → fields (full e key) ≡ wordOf e ∷ (54 ∷ []) ∷ (54 ∷ []) ∷ key ∷ []
-unfolding fields
+pub full-fields : (e : Edition) (key : List ℕ) → columns key ≡ key ∷ [] → columns (full e key) ≡ wordOf e ∷ (54 ∷ []) ∷ (54 ∷ []) ∷ key ∷ []
+unfolding columns
 full-fields e key k = word-fields e (heights ++ key) ∙ rw k
 
 key-length : (key : List ℕ) → isHexOf 32 key ≡ true → length key ≡ 64
 unfolding isHexOf
 key-length key h = eqb-true (length key) (2 * 32) (both (eqb (length key) (2 * 32)) (every isHexDigit key) h .0)
 
-pub place-line : (l more : List ℕ) → NoLf l → placeOf (l ++ (10 ∷ more)) ≡ placeIn (fields l)
+pub place-line : (l more : List ℕ) → NoLf l → placeOf (l ++ (10 ∷ more)) ≡ placeIn (columns l)
 unfolding placeOf
 place-line l more f =
     let h : length l < length (l ++ (10 ∷ more)) = rw length-append (omega arith) in
     rw (first-lf l more f, lt-ltb (length l) (length (l ++ (10 ∷ more))) h, take-append-seam l (10 ∷ more))
 
-pub place-ended : (x : List ℕ) → before 10 x < length x → placeOf x ≡ placeIn (fields (take (before 10 x) x))
+pub place-ended : (x : List ℕ) → upTo 10 x < length x → placeOf x ≡ placeIn (columns (take (upTo 10 x) x))
 unfolding placeOf
-place-ended x h = simp (lt-ltb (before 10 x) (length x) h)
+place-ended x h = simp (lt-ltb (upTo 10 x) (length x) h)
 
-pub place-unended : (x : List ℕ) → length x ≤ before 10 x → placeOf x ≡ Nowhere
+pub place-unended : (x : List ℕ) → length x ≤ upTo 10 x → placeOf x ≡ Nowhere
 unfolding placeOf
-place-unended x h = simp (le-ltb (before 10 x) (length x) h)
+place-unended x h = simp (le-ltb (upTo 10 x) (length x) h)
 
 -- an input that gets heights at p
 pub record Found (x : List ℕ) (p : ℕ) : Type 0 where
@@ -79,17 +79,17 @@ pub record Found (x : List ℕ) (p : ℕ) : Type 0 where
   pub key : List ℕ
   pub more : List ℕ
   pub is : x ≡ short edition key ++ (10 ∷ more)
-  pub one : fields key ≡ key ∷ []
+  pub one : columns key ≡ key ∷ []
   pub hex : isHexOf 32 key ≡ true
   pub free : NoLf key
   pub at : p ≡ length (wordOf edition) + 1
 
-found-line : (l more : List ℕ) {p : ℕ} → NoLf l → placeIn (fields l) ≡ Behind p → Found (l ++ (10 ∷ more)) p
+found-line : (l more : List ℕ) {p : ℕ} → NoLf l → placeIn (columns l) ≡ Behind p → Found (l ++ (10 ∷ more)) p
 unfolding withTabs
 found-line l more f e =
-    let s = short-of (fields l) e in
+    let s = short-of (columns l) e in
     let line : l ≡ short (s .edition) (s .key) = sym (rejoined l) ∙ ap withTabs (s .are) in
-    let q : wordOf (s .edition) ∷ fields (s .key) ≡ wordOf (s .edition) ∷ (s .key) ∷ [] = sym (word-fields (s .edition) (s .key)) ∙ ap fields (sym line) ∙ s .are in
+    let q : wordOf (s .edition) ∷ columns (s .key) ≡ wordOf (s .edition) ∷ (s .key) ∷ [] = sym (word-fields (s .edition) (s .key)) ∙ ap columns (sym line) ∙ s .are in
     let g = no-lf-after (wordOf (s .edition)) (9 ∷ s .key) (subst NoLf line f) in
     record {
       edition = s .edition;
@@ -106,10 +106,10 @@ pub found : (x : List ℕ) {p : ℕ} → placeOf x ≡ Behind p → Found x p
 found x {p} e = ⊎-elim
     (λ h.
     let b = begins x h in
-    let k : placeIn (fields (b .line)) ≡ Behind p = sym (place-line (b .line) (b .more) (b .free)) ∙ ap placeOf (sym (b .is)) ∙ e in
+    let k : placeIn (columns (b .line)) ≡ Behind p = sym (place-line (b .line) (b .more) (b .free)) ∙ ap placeOf (sym (b .is)) ∙ e in
     subst (λ (y : List ℕ). Found y p) (sym (b .is)) (found-line (b .line) (b .more) (b .free) k))
     (λ h. absurd (nowhere-not (sym (place-unended x h) ∙ e)))
-    (side (before 10 x) (length x))
+    (side (upTo 10 x) (length x))
 
 -- IN FULL: the heights behind the word and its tab, nothing else
 pub put-full : (e : Edition) (rest : List ℕ) (p : ℕ) → p ≡ length (wordOf e) + 1 → putIn (Behind p) (wordOf e ++ (9 ∷ rest)) ≡ wordOf e ++ (9 ∷ (heights ++ rest))

@@ -10,11 +10,10 @@ use lib.ListN.{length, length-append}
 use lib.Seq.{take-append-le, drop-append-le}
 use borrow.Author.Tests.{ne-eqb}
 use Rattle.fields.specs.Tests.{pick}
-use Rattle.text.specs.Fields.{before, fields}
+use Rattle.fields.proofs.Cases.{both, side}
+use Rattle.text.specs.Columns.{upTo, columns}
 use Rattle.text.specs.Hex.{nibble, isHexDigit, isHexOf}
 use Rattle.text.specs.Numerals.{every, isDigit}
-use Rattle.text.proofs.Cuts.{side}
-use Rattle.text.proofs.Reading.{both}
 use Rattle.lines.proofs.First.{NoLf, no-lf-both, begins, first-lf}
 use Rattle.records.specs.declared.Edition.{Edition}
 use Rattle.records.specs.FirstLine.{wordOf, headWith, headInBy}
@@ -48,23 +47,23 @@ place-within x e =
     omega (arith, f .at, ap length (f .is), length-append (short (f .edition) (f .key)) (10 ∷ f .more), length-append (wordOf (f .edition)) (9 ∷ f .key))
 
 -- a line 1 without its LF among 2,048 bytes is too long for a header
-long-nowhere : (x : List ℕ) (q : Place) → placeOf x ≡ q → 2048 ≤ before 10 x → placeOf x ≡ Nowhere
+long-nowhere : (x : List ℕ) (q : Place) → placeOf x ≡ q → 2048 ≤ upTo 10 x → placeOf x ≡ Nowhere
 long-nowhere x Nowhere e h = e
 long-nowhere x (Behind p) e h =
     let f = found x e in
-    let n : before 10 x ≡ length (short (f .edition) (f .key)) = ap (before 10) (f .is) ∙ first-lf (short (f .edition) (f .key)) (f .more) (short-free f) in
+    let n : upTo 10 x ≡ length (short (f .edition) (f .key)) = ap (upTo 10) (f .is) ∙ first-lf (short (f .edition) (f .key)) (f .more) (short-free f) in
     absurd (omega (arith, n, short-size f, h))
 
 -- the first LF lies behind what has none
-before-cons : (t : Bool) (x more : List ℕ) → (length x ≤ before 10 x → length x ≤ before 10 (x ++ more)) → suc (length x) ≤ pick t 0 (suc (before 10 x))
-    → suc (length x) ≤ pick t 0 (suc (before 10 (x ++ more)))
-before-cons true x more ih h = absurd (omega arith)
-before-cons false x more ih h = omega (arith, ih (omega arith))
+upTo-cons : (t : Bool) (x more : List ℕ) → (length x ≤ upTo 10 x → length x ≤ upTo 10 (x ++ more)) → suc (length x) ≤ pick t 0 (suc (upTo 10 x))
+    → suc (length x) ≤ pick t 0 (suc (upTo 10 (x ++ more)))
+upTo-cons true x more ih h = absurd (omega arith)
+upTo-cons false x more ih h = omega (arith, ih (omega arith))
 
-before-more : (x more : List ℕ) → length x ≤ before 10 x → length x ≤ before 10 (x ++ more)
-unfolding before
-before-more [] more h = omega arith
-before-more (y ∷ x) more h = before-cons (eqb y 10) x more (before-more x more) h
+upTo-more : (x more : List ℕ) → length x ≤ upTo 10 x → length x ≤ upTo 10 (x ++ more)
+unfolding upTo
+upTo-more [] more h = omega arith
+upTo-more (y ∷ x) more h = upTo-cons (eqb y 10) x more (upTo-more x more) h
 
 put-more : (q : Place) (x more : List ℕ) → ((p : ℕ) → q ≡ Behind p → p ≤ length x) → putIn q (x ++ more) ≡ putIn q x ++ more
 put-more Nowhere x more h = refl
@@ -72,22 +71,22 @@ put-more (Behind p) x more h =
     let n = h p refl in
     rw (take-append-le p x more n, drop-append-le p x more n) (simp append-assoc)
 
-ended-decides : (x more : List ℕ) → before 10 x < length x → inFull (x ++ more) ≡ inFull x ++ more
+ended-decides : (x more : List ℕ) → upTo 10 x < length x → inFull (x ++ more) ≡ inFull x ++ more
 unfolding inFull
 ended-decides x more h =
     let b = begins x h in
-    let here : placeOf x ≡ placeIn (fields (b .line)) = ap placeOf (b .is) ∙ place-line (b .line) (b .more) (b .free) in
+    let here : placeOf x ≡ placeIn (columns (b .line)) = ap placeOf (b .is) ∙ place-line (b .line) (b .more) (b .free) in
     let joined : x ++ more ≡ b .line ++ (10 ∷ (b .more ++ more)) = ap (λ (l : List ℕ). l ++ more) (b .is) ∙ append-assoc (b .line) (10 ∷ b .more) more in
     let there : placeOf (x ++ more) ≡ placeOf x = ap placeOf joined ∙ place-line (b .line) (b .more ++ more) (b .free) ∙ sym here in
     rw there (put-more (placeOf x) x more (λ p e. place-within x e))
 
-unended-decides : (x more : List ℕ) → length x ≤ before 10 x → 2048 ≤ length x → inFull (x ++ more) ≡ inFull x ++ more
+unended-decides : (x more : List ℕ) → length x ≤ upTo 10 x → 2048 ≤ length x → inFull (x ++ more) ≡ inFull x ++ more
 unended-decides x more h n =
-    nowhere-full (x ++ more) (long-nowhere (x ++ more) (placeOf (x ++ more)) refl (omega (arith, before-more x more h)))
+    nowhere-full (x ++ more) (long-nowhere (x ++ more) (placeOf (x ++ more)) refl (omega (arith, upTo-more x more h)))
     ∙ ap (λ (l : List ℕ). l ++ more) (sym (nowhere-full x (place-unended x h)))
 
 pub front-decides : (x more : List ℕ) → 2048 ≤ length x → inFull (x ++ more) ≡ inFull x ++ more
-front-decides x more n = ⊎-elim (λ h. ended-decides x more h) (λ h. unended-decides x more h n) (side (before 10 x) (length x))
+front-decides x more n = ⊎-elim (λ h. ended-decides x more h) (λ h. unended-decides x more h n) (side (upTo 10 x) (length x))
 
 -- ANY TWO-FIELD HEADER, under either word
 not-hex : (x y : ℕ) → isHexDigit y ≡ false → isHexDigit x ≡ true → eqb x y ≡ false
@@ -98,8 +97,8 @@ unfolding every isHexDigit nibble isDigit
 hex-free [] h = tt
 hex-free (x ∷ key) h = let b = both (isHexDigit x) (every isHexDigit key) h in (not-hex x 10 refl (b .0), hex-free key (b .1))
 
-hex-field : (key : List ℕ) → every isHexDigit key ≡ true → fields key ≡ key ∷ []
-unfolding fields every isHexDigit nibble isDigit
+hex-field : (key : List ℕ) → every isHexDigit key ≡ true → columns key ≡ key ∷ []
+unfolding columns every isHexDigit nibble isDigit
 hex-field [] h = refl
 hex-field (x ∷ key) h = let b = both (isHexDigit x) (every isHexDigit key) h in rw (not-hex x 9 refl (b .0), hex-field key (b .1))
 
@@ -112,7 +111,7 @@ pub either-word : (e : Edition) (key more : List ℕ) → isHexOf 32 key ≡ tru
 unfolding inFull isHexOf
 either-word e key more h =
     let hex = both (eqb (length key) (2 * 32)) (every isHexDigit key) h .1 in
-    let are : fields (short e key) ≡ wordOf e ∷ key ∷ [] = word-fields e key ∙ rw (hex-field key hex) in
+    let are : columns (short e key) ≡ wordOf e ∷ key ∷ [] = word-fields e key ∙ rw (hex-field key hex) in
     let free = no-lf-both (wordOf e) (9 ∷ key) (word-free e) (refl, hex-free key hex) in
     let is : wordOf e ++ (9 ∷ (key ++ (10 ∷ more))) ≡ short e key ++ (10 ∷ more) = simp append-assoc in
     let place : placeOf (wordOf e ++ (9 ∷ (key ++ (10 ∷ more)))) ≡ Behind (length (wordOf e) + 1) =

@@ -8,19 +8,19 @@ use native.Mathlib.Omega.{arith}
 use lib.ListN.{length, take}
 use lib.Seq.{take-nil}
 use Rattle.fields.specs.Tests.{pick}
-use Rattle.text.specs.Fields.{before, fields}
+use Rattle.fields.proofs.Cases.{side}
+use Rattle.text.specs.Columns.{upTo, columns}
 use Rattle.text.specs.Hex.{isHexOf}
 use Rattle.text.specs.Numerals.{every, isDigit, valueFrom, digitsUpTo, noLeadingZero, numberIn}
 use Rattle.text.specs.declared.Number.the-variants.{Value}
-use Rattle.text.proofs.Cuts.{side}
 use Rattle.lines.specs.Lines.{Line, whole, unended, ended, linesAfter, lastLine, linesOf}
 use Rattle.lines.proofs.First.{NoLf, begins, up-to-lf}
 use Rattle.lines.proofs.Law.{last-line, goes-on, ended-whole, ended-long}
 use Rattle.records.specs.declared.Edition.{Edition}
-use Rattle.records.specs.declared.Heights.{Heights}
+use Rattle.records.specs.declared.KeyHeights.{KeyHeights}
 use Rattle.records.specs.declared.reading.Word.{Word}
 use Rattle.records.specs.declared.reading.Word.the-variants.{Says, Unknown}
-use Rattle.records.specs.FirstLine.{Head, wrong, wordOf, editionIn, said, shortHeights, headWith, headInBy, headIn}
+use Rattle.records.specs.FirstLine.{Head, wrongHead, wordOf, editionIn, said, shortHeights, headWith, headInBy, headIn}
 use Rattle.ledger.specs.Output.{wrongHeader, under, headBy, reportedBy, reportBy, journalReport}
 use Rattle.ledger.proofs.Taking.{take-first}
 use Rattle.headers.specs.InFull.{sixes, isRight, placeIn, placeOf, inFull}
@@ -33,14 +33,14 @@ six : numberIn 0 12 (54 ∷ []) ≡ Value 6
 unfolding numberIn noLeadingZero digitsUpTo every isDigit valueFrom
 six = refl
 
-head-same : (e : Edition) (key : List ℕ) → fields key ≡ key ∷ [] → headBy sixes (whole (short e key)) ≡ headBy shortHeights (whole (full e key))
+head-same : (e : Edition) (key : List ℕ) → columns key ≡ key ∷ [] → headBy sixes (whole (short e key)) ≡ headBy shortHeights (whole (full e key))
 unfolding headBy headInBy
 head-same e key one =
-    let are : fields (short e key) ≡ wordOf e ∷ key ∷ [] = word-fields e key ∙ rw one in
+    let are : columns (short e key) ≡ wordOf e ∷ key ∷ [] = word-fields e key ∙ rw one in
     ap (headInBy sixes) are ∙ rw (says e) (sym (ap (headInBy shortHeights) (full-fields e key one) ∙ rw (says e, six)))
 
 -- a line 1 that is no right header of two fields says the same under both meanings
-with-same : (t : Bool) (x y : Head) → isRight (pick t x wrong) ≡ false → isRight x ≡ true → pick t y wrong ≡ pick t x wrong
+with-same : (t : Bool) (x y : Head) → isRight (pick t x wrongHead) ≡ false → isRight x ≡ true → pick t y wrongHead ≡ pick t x wrongHead
 with-same true x y n r = absurd (let b : true ≡ false = sym r ∙ n in let z : _≡_ {A = ℕ} 0 1 = cc in omega arith)
 with-same false x y n r = refl
 
@@ -48,8 +48,8 @@ head-with-same : (e : Edition) (a b c d : ℕ) (key : List ℕ) → isRight (hea
 unfolding headWith
 head-with-same e a b c d key n = with-same (isHexOf 32 key) _ _ n refl
 
-said-same : (w : Word) (key : List ℕ) → isRight (said wrong w (λ e. headWith e (shortHeights e .h1) (shortHeights e .h2) key)) ≡ false
-    → said wrong w (λ e. headWith e 6 6 key) ≡ said wrong w (λ e. headWith e (shortHeights e .h1) (shortHeights e .h2) key)
+said-same : (w : Word) (key : List ℕ) → isRight (said wrongHead w (λ e. headWith e (shortHeights e .h1) (shortHeights e .h2) key)) ≡ false
+    → said wrongHead w (λ e. headWith e 6 6 key) ≡ said wrongHead w (λ e. headWith e (shortHeights e .h1) (shortHeights e .h2) key)
 said-same Unknown key n = refl
 said-same (Says e) key n = head-with-same e 6 6 (shortHeights e .h1) (shortHeights e .h2) key n
 
@@ -57,25 +57,25 @@ not-right : (t : Bool) (p : ℕ) → pick t (Behind p) Nowhere ≡ Nowhere → t
 not-right true p e = absurd (let z : _≡_ {A = ℕ} 0 1 = cc in omega arith)
 not-right false p e = refl
 
-fields-same : (fs : List (List ℕ)) → placeIn fs ≡ Nowhere → headInBy sixes fs ≡ headInBy shortHeights fs
+columns-same : (fs : List (List ℕ)) → placeIn fs ≡ Nowhere → headInBy sixes fs ≡ headInBy shortHeights fs
 unfolding placeIn headInBy
-fields-same [] e = refl
-fields-same (a ∷ []) e = refl
-fields-same (word ∷ key ∷ []) e = said-same (editionIn word) key (not-right (isRight (headIn (word ∷ key ∷ []))) (length word + 1) e)
-fields-same (a ∷ b ∷ c ∷ []) e = refl
-fields-same (a ∷ b ∷ c ∷ d ∷ []) e = refl
-fields-same (a ∷ b ∷ c ∷ d ∷ f ∷ r) e = refl
+columns-same [] e = refl
+columns-same (a ∷ []) e = refl
+columns-same (word ∷ key ∷ []) e = said-same (editionIn word) key (not-right (isRight (headIn (word ∷ key ∷ []))) (length word + 1) e)
+columns-same (a ∷ b ∷ c ∷ []) e = refl
+columns-same (a ∷ b ∷ c ∷ d ∷ []) e = refl
+columns-same (a ∷ b ∷ c ∷ d ∷ f ∷ r) e = refl
 
-line-same : (l : List ℕ) → placeIn (fields l) ≡ Nowhere → headBy sixes (ended l) ≡ headBy shortHeights (ended l)
+line-same : (l : List ℕ) → placeIn (columns l) ≡ Nowhere → headBy sixes (ended l) ≡ headBy shortHeights (ended l)
 unfolding headBy
-line-same l e = ⊎-elim (λ h. rw (ended-whole l h) (fields-same (fields l) e)) (λ h. rw (ended-long l h)) (side (length l) 2048)
+line-same l e = ⊎-elim (λ h. rw (ended-whole l h) (columns-same (columns l) e)) (λ h. rw (ended-long l h)) (side (length l) 2048)
 
 -- REPORTS, by their first line
-report-first : (s : Edition → Heights) (l : Line) (ls : List Line) → reportedBy s (take lastLine (l ∷ ls)) ≡ under (headBy s l) (take (lastLine + 1 - 2) ls)
+report-first : (s : Edition → KeyHeights) (l : Line) (ls : List Line) → reportedBy s (take lastLine (l ∷ ls)) ≡ under (headBy s l) (take (lastLine + 1 - 2) ls)
 unfolding reportedBy
 report-first s l ls = ap (reportedBy s) (take-first lastLine l ls (omega (arith, last-line)))
 
-report-unended : (s : Edition → Heights) (x : List ℕ) → reportedBy s (take lastLine (linesAfter x [])) ≡ wrongHeader
+report-unended : (s : Edition → KeyHeights) (x : List ℕ) → reportedBy s (take lastLine (linesAfter x [])) ≡ wrongHeader
 unfolding linesAfter reportedBy headBy
 report-unended s [] = rw (take-nil {A = Line} lastLine)
 report-unended s (y ∷ x) = report-first s unended []
@@ -86,12 +86,12 @@ report-nowhere x e = ⊎-elim
     (λ h.
     let b = begins x h in
     let lines : linesAfter [] x ≡ ended (b .line) ∷ linesAfter [] (b .more) = ap (linesAfter []) (b .is) ∙ up-to-lf [] (b .line) (b .more) (b .free) in
-    let n : placeIn (fields (b .line)) ≡ Nowhere = sym (place-line (b .line) (b .more) (b .free)) ∙ ap placeOf (sym (b .is)) ∙ e in
+    let n : placeIn (columns (b .line)) ≡ Nowhere = sym (place-line (b .line) (b .more) (b .free)) ∙ ap placeOf (sym (b .is)) ∙ e in
     rw lines (report-first sixes (ended (b .line)) _ ∙ rw (line-same (b .line) n) (sym (report-first shortHeights (ended (b .line)) _))))
     (λ h.
     let lines : linesAfter [] x ≡ linesAfter x [] = ap (linesAfter []) (sym (append-nil x)) ∙ goes-on [] x [] h in
     rw lines (report-unended sixes x ∙ sym (report-unended shortHeights x)))
-    (side (before 10 x) (length x))
+    (side (upTo 10 x) (length x))
 
 whole-first : (l more : List ℕ) → NoLf l → length l < 2048 → linesAfter [] (l ++ (10 ∷ more)) ≡ whole l ∷ linesAfter [] more
 whole-first l more f h = up-to-lf [] l more f ∙ rw (ended-whole l h)

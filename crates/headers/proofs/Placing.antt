@@ -4,28 +4,26 @@ use mathlib.Core.List.{List, [], _∷_}
 use mathlib.Core.Bool.{Bool, true, false}
 use Prim.Native.Nat.{ℕ, _+_}
 use native.Mathlib.Omega.{arith}
-use lib.Dec.{eqb}
 use lib.ListN.{length}
-use borrow.Author.Tests.{eqb-true}
 use Rattle.fields.specs.Tests.{pick, same}
+use Rattle.fields.proofs.Cases.{same-is}
 use Rattle.text.specs.Hex.{isHexOf}
-use Rattle.text.proofs.Reading.{both}
 use Rattle.records.specs.declared.Edition.{Edition}
 use Rattle.records.specs.declared.Edition.the-variants.{Plain, Tabbed}
 use Rattle.records.specs.declared.reading.Word.the-variants.{Says, Unknown}
-use Rattle.records.specs.declared.Header.{Header}
-use Rattle.records.specs.FirstLine.{Head, right, wrong, wordOf, editionIn, headWith, headInBy, headIn}
-use Rattle.records.specs.Splitting.{OtherFields}
+use Rattle.records.specs.declared.FirstLine.{FirstLine}
+use Rattle.records.specs.FirstLine.{Head, rightHead, wrongHead, wordOf, editionIn, headWith, headInBy, headIn}
+use Rattle.records.specs.Inside.{OtherFields}
 use Rattle.records.proofs.Ranges.{chosen, said-some, wrong-not}
 use Rattle.headers.specs.InFull.{isRight, placeIn}
 use Rattle.headers.specs.declared.Place.the-variants.{Behind, Nowhere}
 
 module _ {fs : List (List ℕ)} {word key : List ℕ} (are : fs ≡ word ∷ key ∷ []) where
-  pub place-right : {h : Header} → headIn fs ≡ right h → placeIn fs ≡ Behind (length word + 1)
+  pub place-right : {h : FirstLine} → headIn fs ≡ rightHead h → placeIn fs ≡ Behind (length word + 1)
   unfolding placeIn
   place-right e = let r = ap headIn (sym are) ∙ e in ap placeIn are ∙ rw r
 
-  pub place-wrong : headIn fs ≡ wrong → placeIn fs ≡ Nowhere
+  pub place-wrong : headIn fs ≡ wrongHead → placeIn fs ≡ Nowhere
   unfolding placeIn
   place-wrong e = let r = ap headIn (sym are) ∙ e in ap placeIn are ∙ rw r
 
@@ -49,19 +47,12 @@ was-true true x y never e = refl
 was-true false x y never e = absurd (never e)
 
 record Some (x : Head) : Type 0 where
-  header : Header
-  is : x ≡ right header
+  header : FirstLine
+  is : x ≡ rightHead header
 
 some : (x : Head) → isRight x ≡ true → Some x
-some (right h) e = record { header = h; is = refl }
-some wrong e = absurd (let z : _≡_ {A = ℕ} 0 1 = cc in omega arith)
-
-same-is : (a b : List ℕ) → same a b ≡ true → a ≡ b
-unfolding same
-same-is [] [] e = refl
-same-is [] (y ∷ b) e = absurd (let z : _≡_ {A = ℕ} 0 1 = cc in omega arith)
-same-is (x ∷ a) [] e = absurd (let z : _≡_ {A = ℕ} 0 1 = cc in omega arith)
-same-is (x ∷ a) (y ∷ b) e = let h = both (eqb x y) (same a b) e in rw (eqb-true x y (h .0), same-is a b (h .1))
+some (rightHead h) e = record { header = h; is = refl }
+some wrongHead e = absurd (let z : _≡_ {A = ℕ} 0 1 = cc in omega arith)
 
 word-by : (word : List ℕ) (s t : Bool) {e : Edition} → same word (wordOf Plain) ≡ s → same word (wordOf Tabbed) ≡ t
     → pick s (Says Plain) (pick t (Says Tabbed) Unknown) ≡ Says e → word ≡ wordOf e
@@ -73,9 +64,9 @@ word-is : (word : List ℕ) {e : Edition} → editionIn word ≡ Says e → word
 unfolding editionIn
 word-is word so = word-by word (same word (wordOf Plain)) (same word (wordOf Tabbed)) refl refl so
 
-hex-of : (e : Edition) (h1 h2 : ℕ) (key : List ℕ) {h : Header} → headWith e h1 h2 key ≡ right h → isHexOf 32 key ≡ true
+hex-of : (e : Edition) (h1 h2 : ℕ) (key : List ℕ) {h : FirstLine} → headWith e h1 h2 key ≡ rightHead h → isHexOf 32 key ≡ true
 unfolding headWith
-hex-of e h1 h2 key so = was-true (isHexOf 32 key) _ wrong wrong-not so
+hex-of e h1 h2 key so = was-true (isHexOf 32 key) _ wrongHead wrong-not so
 
 -- the fields of a header that gets heights at p
 pub record Short (fs : List (List ℕ)) (p : ℕ) : Type 0 where
@@ -88,7 +79,7 @@ pub record Short (fs : List (List ℕ)) (p : ℕ) : Type 0 where
 two-short : (word key : List ℕ) {p : ℕ} → isRight (headIn (word ∷ key ∷ [])) ≡ true → p ≡ length word + 1 → Short (word ∷ key ∷ []) p
 unfolding headInBy
 two-short word key r at =
-    let told = said-some wrong (editionIn word) _ wrong-not (some (headIn (word ∷ key ∷ [])) r .is) in
+    let told = said-some wrongHead (editionIn word) _ wrong-not (some (headIn (word ∷ key ∷ [])) r .is) in
     let w = word-is word (told .is) in
     record {
       edition = told .edition;

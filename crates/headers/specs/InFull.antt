@@ -1,25 +1,25 @@
--- A two-field header written out in full. Document 02, CR 10: "A small program writes any two-field header out in full as 6 and 6, all else as found".
--- A header is a right line 1 that LF ends. Before CR 10 its short form meant 6 and 6 under either word.
+-- A two-field header written out in full. Request 10: "A small program writes any two-field header out in full as 6 and 6, all else as found".
+-- A header is a right line 1 that LF ends. Before request 10 its short form meant 6 and 6 under either word.
 use mathlib.Core.List.{List, [], _∷_, _++_}
 use mathlib.Core.Bool.{Bool, true, false}
 use Prim.Native.Nat.{ℕ, _+_}
 use lib.Dec.{ltb}
 use lib.ListN.{length, take, drop}
 use Rattle.fields.specs.Tests.{pick}
-use Rattle.text.specs.Fields.{before, fields}
-use Rattle.records.specs.FirstLine.{Head, right, wrong, headIn}
+use Rattle.text.specs.Columns.{upTo, columns}
+use Rattle.records.specs.FirstLine.{Head, rightHead, wrongHead, headIn}
 use Rattle.records.specs.declared.Edition.{Edition}
-use Rattle.records.specs.declared.Heights.{Heights}
+use Rattle.records.specs.declared.KeyHeights.{KeyHeights}
 use Rattle.headers.specs.declared.Place.{Place}
 use Rattle.headers.specs.declared.Place.the-variants.{Behind, Nowhere}
 
 -- what the short form meant before
-abbrev pub sixes : Edition → Heights
+abbrev pub sixes : Edition → KeyHeights
 sixes e = record { h1 = 6; h2 = 6 }
 
 abbrev pub isRight : Head → Bool
-isRight (right h) = true
-isRight wrong = false
+isRight (rightHead h) = true
+isRight wrongHead = false
 
 -- where the heights go in a line of these fields: behind the word and its tab, if it is a right line 1 of two fields
 unfoldable pub placeIn : List (List ℕ) → Place
@@ -30,7 +30,7 @@ placeIn (a ∷ b ∷ c ∷ r) = Nowhere
 
 -- where they go in an input, if LF ends its first line
 unfoldable pub placeOf : List ℕ → Place
-placeOf x = pick (ltb (before 10 x) (length x)) (placeIn (fields (take (before 10 x) x))) Nowhere
+placeOf x = pick (ltb (upTo 10 x) (length x)) (placeIn (columns (take (upTo 10 x) x))) Nowhere
 
 -- `6`, tab, `6`, tab
 abbrev pub heights : List ℕ

@@ -2,11 +2,11 @@
 ghost use mathlib.Core.Path.{_≡_};
 ghost use Prim.Native.Nat.{_+_, _≤_};
 ghost use lib.ListN.{length};
-ghost use Rattle.text.specs.Fields.{fields};
+ghost use Rattle.text.specs.Columns.{columns};
 ghost use Rattle.text.specs.Digits.{Puts};
-ghost use Rattle.records.specs.Splitting.{TwoFields};
+ghost use Rattle.records.specs.Inside.{TwoFields};
 ghost use Rattle.headers.specs.InFull.{placeIn, placeOf, inFull};
-use records::Answer;
+use records::Heading;
 use records::Tabs;
 use records::read_header;
 use records::split;
@@ -19,11 +19,11 @@ pub enum Place {
 
 fn place_short(line: &[u8], a: usize) -> Place
     requires { ⌜ TwoFields (now line) a ⌝ }
-    ensures { λ r. ⌜ r ≡ placeIn (fields (now (line .entry))) ⌝ }
+    ensures { λ r. ⌜ r ≡ placeIn (columns (now (line .entry))) ⌝ }
 {
     let headed = read_header(line);
-    let answer = headed.answer;
-    let Answer::Right = answer else {
+    let heading = headed.heading;
+    let Heading::Right = heading else {
         return Place::Nowhere;
     };
     let behind = a + 1;
@@ -31,7 +31,7 @@ fn place_short(line: &[u8], a: usize) -> Place
 }
 
 fn place_in(line: &[u8]) -> Place
-    ensures { λ r. ⌜ r ≡ placeIn (fields (now (line .entry))) ⌝ }
+    ensures { λ r. ⌜ r ≡ placeIn (columns (now (line .entry))) ⌝ }
 {
     match split(line) {
         Tabs::Two { a } => place_short(line, a),

@@ -13,14 +13,15 @@ use Rattle.fields.specs.Tests.{pick}
 use Rattle.blake2b.specs.Calls.{limit}
 use Rattle.refusal.specs.declared.Refusal.{Refusal}
 use Rattle.refusal.specs.declared.Refusal.the-variants.{Height, SeedOrKey, Length, NotLater, PastEnd, TooLong, Unanswered}
-use Rattle.ed25519.specs.Tally.{Run, asked, Asks, Leaves}
+use Rattle.ed25519.specs.Tally.{Run, asked}
+use Rattle.ed25519.specs.Inside.{Asks, Leaves}
 use Rattle.tree.specs.Tree.{zeros, rootIn}
 use Rattle.tree.specs.Answers.{grewOf}
 use Rattle.tree.specs.declared.moving.Grew.{Grew}
 use Rattle.tree.specs.declared.moving.Grew.the-variants as grew
 use Rattle.rules.specs.Part.{partSignature, partVerdict}
 use Rattle.rules.specs.Table.{headerSize, steps, tableSize, signatureSize, header, atStep, headerBytes, bodyIn, headerOf}
-use Rattle.rules.specs.Answers.{grownOf, answerOf}
+use Rattle.key.specs.Inside.{grownOf, answerOf}
 use Rattle.rules.specs.Calls.{tooHigh, makeWork, Makes, MakeOutcome, notMade, made, makeOutcome, makeTallied}
 use Rattle.rules.specs.Calls.{Reads, KeyOutcome, notRead, keyRead, keyUnder, keyOutcome}
 use Rattle.rules.specs.Calls.{moveWork, Moves, MoveOutcome, notMoved, moved, moveUnder, moveOutcome, moveTallied}
@@ -31,11 +32,11 @@ use Rattle.rules.specs.declared.Found.{Found}
 use Rattle.rules.specs.declared.Found.the-variants as found
 use Rattle.rules.specs.declared.Grown.{Grown}
 use Rattle.rules.specs.declared.Grown.the-variants as grown
-use Rattle.rules.specs.declared.Answer.{Answer}
-use Rattle.rules.specs.declared.Answer.the-variants as answer
+use Rattle.refusal.specs.declared.Answer.{Answer}
+use Rattle.refusal.specs.declared.Answer.the-variants as answer
 use Rattle.rules.specs.declared.Verdict.{Verdict}
 use Rattle.rules.specs.declared.Verdict.the-variants as verdict
-use Rattle.part.specs.Work.{Commits}
+use Rattle.part.specs.Inside.{Commits}
 use Rattle.part.proofs.Copies.{count-given, none-given}
 
 -- a table d whose tail behind the header was lent and came back as ys

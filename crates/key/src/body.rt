@@ -3,11 +3,11 @@ ghost use mathlib.Core.Path.{_≡_};
 ghost use mathlib.Core.List.{[], _∷_};
 ghost use Prim.Native.Nat.{_<_, _≤_};
 ghost use lib.ListN.{length};
-ghost use Rattle.ed25519.specs.Tally.{Asks, Leaves};
+ghost use Rattle.ed25519.specs.Inside.{Asks, Leaves};
 ghost use Rattle.rules.specs.Part.{partSize, partSignature, partVerdict};
 ghost use Rattle.rules.specs.Table.{maxHeight, steps, signatureSize};
 ghost use Rattle.rules.specs.Calls.{makeWork, moveWork};
-ghost use Rattle.part.specs.Work.{Commits};
+ghost use Rattle.part.specs.Inside.{Commits};
 use rules::Header;
 use tree::Grew;
 

@@ -4,50 +4,16 @@ ghost use mathlib.Core.Path.{_≡_};
 ghost use Prim.Native.Nat.{_≤_};
 ghost use lib.ListN.{length};
 use cases::ANSWERED;
+use cases::SEED;
 use cases::SILENT;
 use cases::digest;
 use cases::end_line;
 use cases::show_field;
 use cases::show_number;
-use key::Answer;
 use key::Grown;
 use key::Verdict;
 use libc::STDOUT_FILENO;
-
-const SEED: [u8; 32] = [
-    1,
-    2,
-    3,
-    4,
-    5,
-    6,
-    7,
-    8,
-    9,
-    10,
-    11,
-    12,
-    13,
-    14,
-    15,
-    16,
-    17,
-    18,
-    19,
-    20,
-    21,
-    22,
-    23,
-    24,
-    25,
-    26,
-    27,
-    28,
-    29,
-    30,
-    31,
-    32,
-];
+use refusal::Answer;
 
 // Room for the longest table. The contract gives its length alone, so that no goal spells the bytes out.
 fn room() -> [u8; 2952]

@@ -4,7 +4,7 @@ use mathlib.Core.List.{List, [], _∷_, _++_}
 use Prim.Native.Nat.{ℕ}
 use lib.ListN.{replicate}
 use Rattle.fields.specs.Tests.{same}
-use Rattle.text.specs.Fields.{fields}
+use Rattle.text.specs.Columns.{columns}
 use Rattle.text.specs.Numerals.{every, isDigit, valueFrom, digitsUpTo, noLeadingZero, numberIn}
 use Rattle.text.specs.Hex.{nibble, isHexDigit, isHexOf, bytesOf}
 use Rattle.text.specs.Digits.{digits, decimal}
@@ -28,5 +28,5 @@ input = (107 ∷ 101 ∷ 115 ∷ 9 ∷ 48 ∷ 9 ∷ 48 ∷ 9 ∷ []) ++ (replica
 
 example : journalOutput input
     ≡ 50 ∷ 9 ∷ 77 ∷ 10 ∷ 51 ∷ 9 ∷ 83 ∷ 10 ∷ 116 ∷ 111 ∷ 116 ∷ 97 ∷ 108 ∷ 9 ∷ 48 ∷ 9 ∷ 48 ∷ 10 ∷ []
-unfolding card line input same fields every isDigit valueFrom digitsUpTo noLeadingZero numberIn nibble isHexDigit isHexOf bytesOf digits decimal ended linesAfter lastLine linesOf wordOf editionIn headWith headInBy cardIn numbersIn recordIn caseOf judged judgedFrom verdictLine totalLine printed headBy reportedBy reportBy journalOutput
+unfolding card line input same columns every isDigit valueFrom digitsUpTo noLeadingZero numberIn nibble isHexDigit isHexOf bytesOf digits decimal ended linesAfter lastLine linesOf wordOf editionIn headWith headInBy cardIn numbersIn recordIn caseOf judged judgedFrom verdictLine totalLine printed headBy reportedBy reportBy journalOutput
 example = refl

@@ -7,16 +7,18 @@ use native.Mathlib.Omega.{arith}
 use lib.ListN.{length, take, drop, length-append, drop-of-length-le}
 use Rattle.text.proofs.Writing.{puts-none, puts-then}
 use Rattle.lines.specs.Lines.{Line, whole, long, linesAfter}
-use Rattle.lines.specs.Pieces.{Takes}
+use Rattle.lines.specs.Inside.{Takes}
 use Rattle.lines.specs.declared.Taken.{Taken}
 use Rattle.lines.specs.declared.Taken.the-variants.{Whole, Long, Cut}
 use Rattle.lines.proofs.Law.{bounds, cut-law}
 use Rattle.ledger.specs.declared.Phase.{Phase}
 use Rattle.ledger.specs.declared.Phase.the-variants.{First, Body, Over}
 use Rattle.ledger.specs.declared.Stream.{Stream}
-use Rattle.ledger.specs.declared.Fed.{Fed}
+use Rattle.ledger.specs.declared.Written.{Written}
 use Rattle.ledger.specs.declared.feeding.Step.{Step}
-use Rattle.ledger.specs.Feeding.{outFrom, remaining, Kept, owed, Writes, Ready, Feeds, Steps}
+use Rattle.ledger.specs.Feeding.{TakesPiece}
+use Rattle.ledger.specs.Remaining.{outFrom, remaining}
+use Rattle.ledger.specs.Inside.{InOrder, owed, Writes, Ready, Steps}
 
 -- what was taken, where it is known
 pub taken-as : {piece line line′ : List ℕ} {from held : ℕ} {r q : Taken} → r ≡ q → Takes piece from line held r line′ → Takes piece from line held q line′
@@ -24,7 +26,7 @@ taken-as {piece} {line} {line′} {from} {held} e t = subst (λ (x : Taken). Tak
 
 module _ (s : Stream) (line piece : List ℕ) (from : ℕ) {line′ : List ℕ} (room : length line′ ≡ 2048) where
   -- a line that ended in the piece
-  pub steps-line : {l : Line} {out out′ : List ℕ} {at next : ℕ} {fed : Fed} → from < next → next ≤ length piece
+  pub steps-line : {l : Line} {out out′ : List ℕ} {at next : ℕ} {fed : Written} → from < next → next ≤ length piece
       → ((more : List ℕ) → linesAfter (take (s .size) line) (drop from piece ++ more) ≡ l ∷ linesAfter [] (drop next piece ++ more))
       → Writes (s .header) (s .phase) l out at fed out′ → Steps s line piece from out at (record { fed = fed; next = next }) line′ out′
   unfolding remaining
@@ -39,7 +41,7 @@ module _ (s : Stream) (line piece : List ℕ) (from : ℕ) {line′ : List ℕ} 
       }
 
   -- a line that goes on after the piece
-  pub steps-cut : {out : List ℕ} {at size : ℕ} → from ≤ length piece → Kept (s .header) (s .phase) → size ≤ 2048
+  pub steps-cut : {out : List ℕ} {at size : ℕ} → from ≤ length piece → InOrder (s .header) (s .phase) → size ≤ 2048
       → ((more : List ℕ) → linesAfter (take (s .size) line) (drop from piece ++ more) ≡ linesAfter (take size line′) more)
       → Steps s line piece from out at
       (record { fed = record { stream = record { phase = s .phase; header = s .header; size = size }; at = at }; next = length piece }) line′ out
@@ -56,18 +58,18 @@ module _ (s : Stream) (line piece : List ℕ) (from : ℕ) {line′ : List ℕ} 
 
 -- the same from what was taken
 module _ (s : Stream) {line piece line′ : List ℕ} {from : ℕ} (room : length line′ ≡ 2048) (h : from ≤ length piece) where
-  pub steps-whole : {out out′ : List ℕ} {at size next : ℕ} {fed : Fed} → Takes piece from line (s .size) (Whole size next) line′
+  pub steps-whole : {out out′ : List ℕ} {at size next : ℕ} {fed : Written} → Takes piece from line (s .size) (Whole size next) line′
       → Writes (s .header) (s .phase) (whole (take (size - 0) line′)) out at fed out′
       → Steps s line piece from out at (record { fed = fed; next = next }) line′ out′ × (from < next)
   steps-whole {size = size} {next = next} t w =
       let b = bounds t in
       (steps-line s line piece from room (b .0) (b .1) (λ more. cut-law h t more ∙ ap (λ (n : ℕ). whole (take n line′) ∷ linesAfter [] (drop next piece ++ more)) (sym (sub-zero size))) w, b .0)
 
-  pub steps-long : {out out′ : List ℕ} {at next : ℕ} {fed : Fed} → Takes piece from line (s .size) (Long next) line′
+  pub steps-long : {out out′ : List ℕ} {at next : ℕ} {fed : Written} → Takes piece from line (s .size) (Long next) line′
       → Writes (s .header) (s .phase) long out at fed out′ → Steps s line piece from out at (record { fed = fed; next = next }) line′ out′ × (from < next)
   steps-long t w = let b = bounds t in (steps-line s line piece from room (b .0) (b .1) (cut-law h t) w, b .0)
 
-  pub steps-on : {out : List ℕ} {at size : ℕ} → Takes piece from line (s .size) (Cut size) line′ → Kept (s .header) (s .phase)
+  pub steps-on : {out : List ℕ} {at size : ℕ} → Takes piece from line (s .size) (Cut size) line′ → InOrder (s .header) (s .phase)
       → Steps s line piece from out at
       (record { fed = record { stream = record { phase = s .phase; header = s .header; size = size }; at = at }; next = length piece }) line′ out
   steps-on t k = steps-cut s line piece from room h k (bounds t) (cut-law h t)
@@ -98,8 +100,8 @@ module _ (s : Stream) (line piece out : List ℕ) (at : ℕ) where
       }
 
   -- the whole of a piece
-  pub feeds-whole : {r : Fed} {n : ℕ} {line′ out′ : List ℕ} → length piece ≤ n → Steps s line piece 0 out at (record { fed = r; next = n }) line′ out′ → Feeds s line piece out at r line′ out′
-  feeds-whole {r} {n} {line′} h a =
+  pub takes-whole : {r : Written} {n : ℕ} {line′ out′ : List ℕ} → length piece ≤ n → Steps s line piece 0 out at (record { fed = r; next = n }) line′ out′ → TakesPiece s line piece out at r line′ out′
+  takes-whole {r} {n} {line′} h a =
       record {
         text = a .text;
         puts = a .puts;

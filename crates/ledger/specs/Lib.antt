@@ -1,2 +1,4 @@
 pub mod Output
+pub mod Remaining
+pub mod Inside
 pub mod Feeding

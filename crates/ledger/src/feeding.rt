@@ -4,20 +4,23 @@ ghost use Prim.Native.Nat.{_+_, _*_, _≤_, _<_};
 ghost use lib.ListN.{length};
 ghost use Rattle.text.specs.Digits.{Puts};
 ghost use Rattle.lines.specs.Lines.{whole, long};
-ghost use Rattle.records.specs.FirstLine.{Fits};
-ghost use Rattle.verdicts.specs.Judging.{start, Sound, Adds};
-ghost use Rattle.ledger.specs.Feeding.{fresh, Kept, betweenLines, isOver, Writes, Reports, Ready, Feeds, Steps, endOf, lastOf};
-use crate::Fed;
+ghost use Rattle.records.specs.Inside.{LowHeights};
+ghost use Rattle.verdicts.specs.Judging.{openBooks};
+ghost use Rattle.verdicts.specs.Inside.{Sound, Adds};
+ghost use Rattle.ledger.specs.Feeding.{TakesPiece};
+ghost use Rattle.ledger.specs.Remaining.{fresh, isOver, endOf, lastOf};
+ghost use Rattle.ledger.specs.Inside.{InOrder, betweenLines, Writes, Reports, Ready, Steps};
 use crate::Phase;
 use crate::Stream;
+use crate::Written;
 use lines::Taken;
-use records::Answer;
-use records::Header;
+use records::FirstLine;
+use records::Heading;
 use records::no_header;
 use records::read_header;
 use verdicts::Books;
 use verdicts::Judged;
-use verdicts::after;
+use verdicts::books_after;
 use verdicts::judge;
 use verdicts::put_line;
 use verdicts::put_total;
@@ -25,7 +28,7 @@ use verdicts::put_wrong;
 
 // A line of a piece was taken; the next one starts at index next.
 pub struct Step {
-    pub fed: Fed,
+    pub fed: Written,
     pub next: usize,
 }
 
@@ -53,10 +56,10 @@ pub fn is_over(stream: Stream) -> bool
 }
 
 // Where the output ends between two lines.
-fn between(header: Header, phase: Phase, at: usize) -> Fed
+fn between(header: FirstLine, phase: Phase, at: usize) -> Written
     ensures { λ r. ⌜ r ≡ betweenLines header phase at ⌝ }
 {
-    Fed {
+    Written {
         stream: Stream {
             phase,
             header,
@@ -66,8 +69,8 @@ fn between(header: Header, phase: Phase, at: usize) -> Fed
     }
 }
 
-fn start() -> Books
-    ensures { λ r. ⌜ r ≡ start ⌝ }
+fn open_books() -> Books
+    ensures { λ r. ⌜ r ≡ openBooks ⌝ }
 {
     Books {
         number: 2,
@@ -79,11 +82,11 @@ fn start() -> Books
 }
 
 // Writes a judged line, and after the last that is read the total.
-fn report(header: Header, books: Books, judged: Judged, out: &mut [u8], at: usize) -> Fed
-    requires { ⌜ Fits header × Sound books × Adds judged × (at + 72 ≤ length (now out)) ⌝ }
+fn report(header: FirstLine, books: Books, judged: Judged, out: &mut [u8], at: usize) -> Written
+    requires { ⌜ LowHeights header × Sound books × Adds judged × (at + 72 ≤ length (now out)) ⌝ }
     ensures { λ r. ⌜ Reports header books judged (now (out .entry)) at r (now (out .exit)) ⌝ }
 {
-    let next = after(books, judged);
+    let next = books_after(books, judged);
     let end = put_line(out, at, books.number, judged);
     if next.number <= lines::LAST_LINE {
         return between(header, Phase::Body(next), end);
@@ -92,7 +95,7 @@ fn report(header: Header, books: Books, judged: Judged, out: &mut [u8], at: usiz
     between(header, Phase::Over, last)
 }
 
-fn wrong_line(header: Header, out: &mut [u8], at: usize) -> Fed
+fn wrong_line(header: FirstLine, out: &mut [u8], at: usize) -> Written
     requires { ⌜ at + 4 ≤ length (now out) ⌝ }
     ensures { λ r. ⌜ Writes header Phase.First long (now (out .entry)) at r (now (out .exit)) ⌝ }
 {
@@ -100,21 +103,21 @@ fn wrong_line(header: Header, out: &mut [u8], at: usize) -> Fed
     between(header, Phase::Over, end)
 }
 
-fn first_line(header: Header, line: &[u8], out: &mut [u8], at: usize) -> Fed
+fn first_line(header: FirstLine, line: &[u8], out: &mut [u8], at: usize) -> Written
     requires { ⌜ at + 4 ≤ length (now out) ⌝ }
     ensures { λ r. ⌜ Writes header Phase.First (whole (now (line .entry))) (now (out .entry)) at r (now (out .exit)) ⌝ }
 {
     let headed = read_header(line);
-    let answer = headed.answer;
-    let Answer::Right = answer else {
+    let heading = headed.heading;
+    let Heading::Right = heading else {
         return wrong_line(header, out, at);
     };
-    between(headed.header, Phase::Body(start()), at)
+    between(headed.header, Phase::Body(open_books()), at)
 }
 
 // A whole line.
-fn whole_line(header: Header, phase: Phase, line: &[u8], out: &mut [u8], at: usize) -> Fed
-    requires { ⌜ Kept header phase × (at + 72 ≤ length (now out)) ⌝ }
+fn whole_line(header: FirstLine, phase: Phase, line: &[u8], out: &mut [u8], at: usize) -> Written
+    requires { ⌜ InOrder header phase × (at + 72 ≤ length (now out)) ⌝ }
     ensures { λ r. ⌜ Writes header phase (whole (now (line .entry))) (now (out .entry)) at r (now (out .exit)) ⌝ }
 {
     match phase {
@@ -128,8 +131,8 @@ fn whole_line(header: Header, phase: Phase, line: &[u8], out: &mut [u8], at: usi
 }
 
 // An over-long or unended line.
-fn broken_line(header: Header, phase: Phase, out: &mut [u8], at: usize) -> Fed
-    requires { ⌜ Kept header phase × (at + 72 ≤ length (now out)) ⌝ }
+fn broken_line(header: FirstLine, phase: Phase, out: &mut [u8], at: usize) -> Written
+    requires { ⌜ InOrder header phase × (at + 72 ≤ length (now out)) ⌝ }
     ensures { λ r. ⌜ Writes header phase long (now (out .entry)) at r (now (out .exit)) ⌝ }
 {
     match phase {
@@ -164,7 +167,7 @@ fn feed_line(
             Step { fed, next }
         }
         Taken::Cut { size } => Step {
-            fed: Fed {
+            fed: Written {
                 stream: Stream {
                     phase,
                     header,
@@ -178,9 +181,9 @@ fn feed_line(
 }
 
 // Takes a piece of the input; line is the buffer of the present line, and what is to be written goes into out from index at on.
-pub fn feed(stream: Stream, piece: &[u8], line: &mut [u8], out: &mut [u8], at: usize) -> Fed
+pub fn feed(stream: Stream, piece: &[u8], line: &mut [u8], out: &mut [u8], at: usize) -> Written
     requires { ⌜ Ready stream (now line) × (at + 24 * length (now piece) + 96 ≤ length (now out)) ⌝ }
-    ensures { λ r. ⌜ Feeds stream (now (line .entry)) (now (piece .entry)) (now (out .entry)) at r (now (line .exit)) (now (out .exit)) ⌝ }
+    ensures { λ r. ⌜ TakesPiece stream (now (line .entry)) (now (piece .entry)) (now (out .entry)) at r (now (line .exit)) (now (out .exit)) ⌝ }
     ensures { λ _. ⌜ now (piece .exit) ≡ now (piece .entry) ⌝ }
 {
     let mut s = stream;
@@ -194,7 +197,7 @@ pub fn feed(stream: Stream, piece: &[u8], line: &mut [u8], out: &mut [u8], at: u
         end = fed.at;
         i = step.next;
     }
-    Fed { stream: s, at: end }
+    Written { stream: s, at: end }
 }
 
 // What is written where no line is left.
@@ -211,7 +214,7 @@ fn put_end(phase: Phase, out: &mut [u8], at: usize) -> usize
 
 // The end of the input.
 pub fn finish(stream: Stream, out: &mut [u8], at: usize) -> usize
-    requires { ⌜ Kept (stream .header) (stream .phase) × (at + 120 ≤ length (now out)) ⌝ }
+    requires { ⌜ InOrder (stream .header) (stream .phase) × (at + 120 ≤ length (now out)) ⌝ }
     ensures { λ r. ⌜ Puts (now (out .entry)) at (lastOf stream) r (now (out .exit)) ⌝ }
 {
     let header = stream.header;

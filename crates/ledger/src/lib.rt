@@ -6,7 +6,7 @@ pub use feeding::feed;
 pub use feeding::finish;
 pub use feeding::is_over;
 pub use feeding::new;
-use records::Header;
+use records::FirstLine;
 use verdicts::Books;
 pub use whole::judge_all;
 
@@ -20,12 +20,12 @@ pub enum Phase {
 // A journal being read: its header once line 1 was right, and how many bytes of the present line are in its buffer.
 pub struct Stream {
     pub phase: Phase,
-    pub header: Header,
+    pub header: FirstLine,
     pub size: usize,
 }
 
 // A stream after more was read, and where its output ends.
-pub struct Fed {
+pub struct Written {
     pub stream: Stream,
     pub at: usize,
 }

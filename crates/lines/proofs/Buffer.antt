@@ -6,9 +6,9 @@ use Prim.Native.Nat.{ℕ, _+_, _-_, _≤_}
 use native.Mathlib.Omega.{arith}
 use lib.ListN.{length, take, drop, length-append, length-take}
 use lib.Seq.{take-all, take-append-le, take-append-add, take-take, take-at, length-take-le}
+use Rattle.fields.proofs.Cases.{side}
 use Rattle.text.specs.Digits.{Puts}
-use Rattle.text.proofs.Cuts.{side}
-use Rattle.lines.specs.Pieces.{kept, Keeps}
+use Rattle.lines.specs.Inside.{kept, Holds}
 
 pub kept-short : (l : List ℕ) → length l ≤ 2048 → kept l ≡ l
 unfolding kept
@@ -28,7 +28,7 @@ unfolding kept
 kept-length l = simp length-take (omega arith)
 
 -- the buffer's front is what is kept
-pub take-kept : {line bytes line′ : List ℕ} {held r : ℕ} → Keeps line held bytes r line′ → take r line′ ≡ kept (take held line ++ bytes)
+pub take-kept : {line bytes line′ : List ℕ} {held r : ℕ} → Holds line held bytes r line′ → take r line′ ≡ kept (take held line ++ bytes)
 take-kept {line} {bytes} {line′} {held} {r} k = rw (k .leaves) (take-at (kept (take held line ++ bytes)) (drop r line) r (sym (k .answers)))
 
 module _ (line : List ℕ) (held : ℕ) (room : length line ≡ 2048) (le : held ≤ 2048) where
@@ -44,13 +44,13 @@ module _ (line : List ℕ) (held : ℕ) (room : length line ≡ 2048) (le : held
       take-all 2048 _ l ∙ sym (ap (λ (k : ℕ). take k (take held line ++ bytes)) m ∙ take-append-add (take held line) bytes n)
 
   module _ (bytes : List ℕ) {line′ : List ℕ} {r : ℕ} where
-    pub keeps-all : length bytes ≤ 2048 - held → Puts line held bytes r line′ → Keeps line held bytes r line′
-    keeps-all h p =
+    pub holds-all : length bytes ≤ 2048 - held → Puts line held bytes r line′ → Holds line held bytes r line′
+    holds-all h p =
         let n : length (take held line ++ bytes) ≡ held + length bytes = length-append (take held line) bytes ∙ rw front in
         let k : kept (take held line ++ bytes) ≡ take held line ++ bytes = kept-short _ (omega arith) in
         record { answers = p .ends ∙ sym (rw k n); leaves = p .leaves ∙ rw (k, p .ends, append-assoc) }
 
-  pub keeps-front : (bytes : List ℕ) {line′ : List ℕ} {r : ℕ} (n : ℕ) → n ≡ 2048 - held → Puts line held (take n bytes) r line′ → Keeps line held bytes r line′
-  keeps-front bytes n e p =
-      let k = keeps-all (take n bytes) (simp length-take (omega arith)) p in
+  pub holds-front : (bytes : List ℕ) {line′ : List ℕ} {r : ℕ} (n : ℕ) → n ≡ 2048 - held → Puts line held (take n bytes) r line′ → Holds line held bytes r line′
+  holds-front bytes n e p =
+      let k = holds-all (take n bytes) (simp length-take (omega arith)) p in
       record { answers = k .answers ∙ ap length (kept-front bytes n e); leaves = k .leaves ∙ rw (kept-front bytes n e) }

@@ -9,7 +9,7 @@ use lib.Dec.{eqb}
 use lib.ListN.{length}
 use borrow.Author.Tests.{eqb-true}
 use Rattle.fields.specs.Tests.{pick}
-use Rattle.text.specs.Fields.{before}
+use Rattle.text.specs.Columns.{upTo}
 use Rattle.lines.specs.Lines.{ended, linesAfter}
 
 -- no byte is LF
@@ -32,20 +32,20 @@ pub record Begins (x : List ℕ) : Type 0 where
   pub is : x ≡ line ++ (10 ∷ more)
   pub free : NoLf line
 
-begins-cons : (t : Bool) (x : ℕ) (xs : List ℕ) → eqb x 10 ≡ t → (before 10 xs < length xs → Begins xs) → pick t 0 (suc (before 10 xs)) < suc (length xs) → Begins (x ∷ xs)
+begins-cons : (t : Bool) (x : ℕ) (xs : List ℕ) → eqb x 10 ≡ t → (upTo 10 xs < length xs → Begins xs) → pick t 0 (suc (upTo 10 xs)) < suc (length xs) → Begins (x ∷ xs)
 begins-cons true x xs e ih h = record { line = []; more = xs; is = rw (eqb-true x 10 e); free = tt }
 begins-cons false x xs e ih h =
     let b = ih (omega arith) in
     record { line = x ∷ b .line; more = b .more; is = ap (λ (l : List ℕ). x ∷ l) (b .is); free = (e, b .free) }
 
-pub begins : (x : List ℕ) → before 10 x < length x → Begins x
-unfolding before
+pub begins : (x : List ℕ) → upTo 10 x < length x → Begins x
+unfolding upTo
 begins [] h = absurd (omega arith)
 begins (x ∷ xs) h = begins-cons (eqb x 10) x xs refl (begins xs) h
 
 -- where it ends, and the lines that follow
-pub first-lf : (l more : List ℕ) → NoLf l → before 10 (l ++ (10 ∷ more)) ≡ length l
-unfolding before
+pub first-lf : (l more : List ℕ) → NoLf l → upTo 10 (l ++ (10 ∷ more)) ≡ length l
+unfolding upTo
 first-lf [] more f = refl
 first-lf (x ∷ l) more f = rw (f .0) (ap suc (first-lf l more (f .1)))
 

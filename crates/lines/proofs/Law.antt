@@ -11,40 +11,40 @@ use lib.Seq.{take-all, drop-drop, length-take-le}
 use borrow.Author.Tests.{lt-ltb, le-ltb}
 use Rattle.fields.specs.Fields.{part}
 use Rattle.fields.specs.Tests.{pick}
-use Rattle.text.proofs.Cuts.{side}
-use Rattle.text.specs.Fields.{before}
+use Rattle.fields.proofs.Cases.{side}
+use Rattle.text.specs.Columns.{upTo}
 use Rattle.lines.proofs.Buffer.{kept-short, kept-more, kept-length, take-kept}
-use Rattle.lines.specs.Lines.{whole, long, unended, ended, linesAfter, lastLine}
-use Rattle.lines.specs.Pieces.{kept, lineEnd, inPiece, found, Keeps, Takes, stillIn}
+use Rattle.lines.specs.Lines.{Line, whole, long, unended, ended, linesAfter, lastLine}
+use Rattle.lines.specs.Inside.{kept, lineEnd, inPiece, found, Holds, Takes}
 use Rattle.lines.specs.declared.Taken.{Taken}
 use Rattle.lines.specs.declared.Taken.the-variants.{Whole, Long, Cut}
 
 -- UP TO THE LF
 abbrev Ends : List ℕ → List ℕ → List ℕ → Type 0
-Ends come xs more = before 10 xs < length xs → linesAfter come (xs ++ more) ≡ ended (come ++ take (before 10 xs) xs) ∷ linesAfter [] (drop (suc (before 10 xs)) xs ++ more)
+Ends come xs more = upTo 10 xs < length xs → linesAfter come (xs ++ more) ≡ ended (come ++ take (upTo 10 xs) xs) ∷ linesAfter [] (drop (suc (upTo 10 xs)) xs ++ more)
 
-ends-cons : (t : Bool) (come : List ℕ) (x : ℕ) (xs more : List ℕ) → Ends (come ++ (x ∷ [])) xs more → pick t 0 (suc (before 10 xs)) < suc (length xs)
+ends-cons : (t : Bool) (come : List ℕ) (x : ℕ) (xs more : List ℕ) → Ends (come ++ (x ∷ [])) xs more → pick t 0 (suc (upTo 10 xs)) < suc (length xs)
     → pick t (ended come ∷ linesAfter [] (xs ++ more)) (linesAfter (come ++ (x ∷ [])) (xs ++ more))
-    ≡ ended (come ++ take (pick t 0 (suc (before 10 xs))) (x ∷ xs)) ∷ linesAfter [] (drop (suc (pick t 0 (suc (before 10 xs)))) (x ∷ xs) ++ more)
+    ≡ ended (come ++ take (pick t 0 (suc (upTo 10 xs))) (x ∷ xs)) ∷ linesAfter [] (drop (suc (pick t 0 (suc (upTo 10 xs)))) (x ∷ xs) ++ more)
 ends-cons true come x xs more ih h = rw append-nil
 ends-cons false come x xs more ih h = ih (omega arith) ∙ rw append-assoc
 
 ends : (come xs more : List ℕ) → Ends come xs more
-unfolding linesAfter before
+unfolding linesAfter upTo
 ends come [] more h = absurd (omega arith)
 ends come (x ∷ xs) more h = ends-cons (eqb x 10) come x xs more (ends (come ++ (x ∷ [])) xs more) h
 
 -- NO LF
 abbrev GoesOn : List ℕ → List ℕ → List ℕ → Type 0
-GoesOn come xs more = length xs ≤ before 10 xs → linesAfter come (xs ++ more) ≡ linesAfter (come ++ xs) more
+GoesOn come xs more = length xs ≤ upTo 10 xs → linesAfter come (xs ++ more) ≡ linesAfter (come ++ xs) more
 
-goes-cons : (t : Bool) (come : List ℕ) (x : ℕ) (xs more : List ℕ) → GoesOn (come ++ (x ∷ [])) xs more → suc (length xs) ≤ pick t 0 (suc (before 10 xs))
+goes-cons : (t : Bool) (come : List ℕ) (x : ℕ) (xs more : List ℕ) → GoesOn (come ++ (x ∷ [])) xs more → suc (length xs) ≤ pick t 0 (suc (upTo 10 xs))
     → pick t (ended come ∷ linesAfter [] (xs ++ more)) (linesAfter (come ++ (x ∷ [])) (xs ++ more)) ≡ linesAfter (come ++ (x ∷ xs)) more
 goes-cons true come x xs more ih h = absurd (omega arith)
 goes-cons false come x xs more ih h = ih (omega arith) ∙ rw append-assoc
 
 pub goes-on : (come xs more : List ℕ) → GoesOn come xs more
-unfolding linesAfter before
+unfolding linesAfter upTo
 goes-on come [] more h = rw append-nil
 goes-on come (x ∷ xs) more h = goes-cons (eqb x 10) come x xs more (goes-on (come ++ (x ∷ [])) xs more) h
 
@@ -89,7 +89,7 @@ module _ (end all size : ℕ) where
   found-whole h k = simp (lt-ltb end all h, lt-ltb size 2048 k)
 
 pub takes : {piece line line′ : List ℕ} {from held end size : ℕ} {r : Taken} → end ≡ lineEnd piece from
-    → Keeps line held (part piece from (end - from)) size line′ → r ≡ found end (length piece) size → Takes piece from line held r line′
+    → Holds line held (part piece from (end - from)) size line′ → r ≡ found end (length piece) size → Takes piece from line held r line′
 takes {size = size} e k a = record { size = size; keeps = rw e at k; answers = rw e at a }
 
 pub ended-long : (l : List ℕ) → 2048 ≤ length l → ended l ≡ long
@@ -100,6 +100,12 @@ pub ended-whole : (l : List ℕ) → length l < 2048 → ended l ≡ whole l
 unfolding ended
 ended-whole l h = simp (lt-ltb (length l) 2048 h)
 
+-- the lines that are still to come after what was taken
+abbrev pub stillIn : Taken → List ℕ → List ℕ → List ℕ → List Line
+stillIn (Whole size next) line piece more = whole (take size line) ∷ linesAfter [] (drop next piece ++ more)
+stillIn (Long next) line piece more = long ∷ linesAfter [] (drop next piece ++ more)
+stillIn (Cut size) line piece more = linesAfter (take size line) more
+
 -- what was found is what comes first, and the lines of the rest follow
 module _ (come piece : List ℕ) (from : ℕ) (le : from ≤ length piece) (line more : List ℕ) where
   abbrev Still : Taken → Type 0
@@ -109,14 +115,14 @@ module _ (come piece : List ℕ) (from : ℕ) (le : from ≤ length piece) (line
     rest-length : length (drop from piece) ≡ length piece - from
     rest-length = length-drop from piece
 
-    in-piece : inPiece piece from ≡ take (before 10 (drop from piece)) (drop from piece)
-    in-piece = let e : lineEnd piece from - from ≡ before 10 (drop from piece) = omega arith in rw e
+    in-piece : inPiece piece from ≡ take (upTo 10 (drop from piece)) (drop from piece)
+    in-piece = let e : lineEnd piece from - from ≡ upTo 10 (drop from piece) = omega arith in rw e
 
     line-ends : lineEnd piece from < length piece
         → linesAfter come (drop from piece ++ more) ≡ ended (kept (come ++ inPiece piece from)) ∷ linesAfter [] (drop (lineEnd piece from + 1) piece ++ more)
     line-ends h =
-        let e : from + suc (before 10 (drop from piece)) ≡ lineEnd piece from + 1 = omega arith in
-        ends come (drop from piece) more (omega (arith, rest-length)) ∙ rw (drop-drop (suc (before 10 (drop from piece))) from piece, e, ended-kept, in-piece)
+        let e : from + suc (upTo 10 (drop from piece)) ≡ lineEnd piece from + 1 = omega arith in
+        ends come (drop from piece) more (omega (arith, rest-length)) ∙ rw (drop-drop (suc (upTo 10 (drop from piece))) from piece, e, ended-kept, in-piece)
 
     still-whole : lineEnd piece from < length piece → size < 2048 → Still (Whole size (lineEnd piece from + 1))
     still-whole h k = line-ends h ∙ rw (el, ended-whole (kept (come ++ inPiece piece from)) (omega arith))
@@ -127,7 +133,7 @@ module _ (come piece : List ℕ) (from : ℕ) (le : from ≤ length piece) (line
     still-cut : length piece ≤ lineEnd piece from → Still (Cut size)
     still-cut h =
         goes-on come (drop from piece) more (omega (arith, rest-length)) ∙ sym (lines-kept (come ++ drop from piece) more)
-        ∙ rw (el, in-piece, take-all (before 10 (drop from piece)) (drop from piece) (omega (arith, rest-length)))
+        ∙ rw (el, in-piece, take-all (upTo 10 (drop from piece)) (drop from piece) (omega (arith, rest-length)))
 
     still : Still (found (lineEnd piece from) (length piece) size)
     still = ⊎-elim

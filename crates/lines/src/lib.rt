@@ -2,7 +2,7 @@
 ghost use mathlib.Core.Path.{_≡_};
 ghost use Prim.Native.Nat.{_≤_};
 ghost use lib.ListN.{length};
-ghost use Rattle.lines.specs.Pieces.{Keeps, Takes};
+ghost use Rattle.lines.specs.Inside.{Holds, Takes};
 
 // The most bytes of a line with its LF; as many of an over-long line are kept.
 pub const LIMIT: usize = 2048;
@@ -20,7 +20,7 @@ pub enum Taken {
 // Adds bytes to the held ones of line, as far as there is room.
 fn keep(line: &mut [u8], held: usize, bytes: &[u8]) -> usize
     requires { ⌜ (length (now line) ≡ 2048) × (held ≤ 2048) ⌝ }
-    ensures { λ r. ⌜ Keeps (now (line .entry)) held (now (bytes .entry)) r (now (line .exit)) ⌝ }
+    ensures { λ r. ⌜ Holds (now (line .entry)) held (now (bytes .entry)) r (now (line .exit)) ⌝ }
 {
     let room = LIMIT - held;
     if bytes.len() <= room {

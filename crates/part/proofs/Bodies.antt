@@ -18,7 +18,7 @@ use Rattle.tree.proofs.Levels.{zeros-length}
 use Rattle.tree.proofs.Reading.{sum-size, sum-front, without-front}
 use Rattle.tree.proofs.Laws.{count-bound, count-new-bound}
 use Rattle.rules.specs.Part.{total, outer, nextAt, seamSize, topIn, chain, partRoot, seam, partAt, movedPart, countNewPart, countPart}
-use Rattle.part.specs.Work.{crossed}
+use Rattle.part.specs.Inside.{crossed}
 
 -- `advance`
 pub chain-none : (r : List ℕ) → r ≡ chain r 0
@@ -29,7 +29,7 @@ pub chain-more : (r : List ℕ) (i : ℕ) {x y : List ℕ} → x ≡ chain r i �
 unfolding chain
 chain-more r i e k = k ∙ rw (e, add-one)
 
--- `seal`: the sum signature ys stands at the front of a buffer, and n of it are written behind the tree
+-- `sign_below`: the sum signature ys stands at the front of a buffer, and n of it are written behind the tree
 module _ (d root buffer : List ℕ) (h t n : ℕ) {ys : List ℕ} (en : n ≡ sumSize h) (l : nextAt h ≤ length d) (ey : ys ≡ sumSignature d h t root) where
   long : length ys ≡ n
   long = rw (ey, en) (sum-size h d t root (omega arith))
@@ -43,17 +43,17 @@ module _ (d root buffer : List ℕ) (h t n : ℕ) {ys : List ℕ} (en : n ≡ su
   pub exact : n ≡ length (take n (ys ++ drop n buffer))
   exact = sym (ap length copied ∙ long)
 
-  pub sealed : {m : ℕ} {d₁ d₂ : List ℕ} → m ≡ treeSize h
+  pub signed-below : {m : ℕ} {d₁ d₂ : List ℕ} → m ≡ treeSize h
       → d₁ ≡ put d m (length (take n (ys ++ drop n buffer))) (take n (ys ++ drop n buffer)) → d₂ ≡ withoutSecret d₁ h
       → d₂ ≡ withoutSecret (topIn d h) h ++ (sumSignature (topIn d h) h t root ++ drop (nextAt h) d)
-  sealed {m} {d₁} {d₂} em e₁ e₂ =
+  signed-below {m} {d₁} {d₂} em e₁ e₂ =
       let front : treeSize h ≤ length (topIn d h) = rw (length-take-le (treeSize h) d (let z : treeSize h ≤ length d = omega arith in z)) (omega arith) in
       let e : d₁ ≡ topIn d h ++ (ys ++ drop (nextAt h) d) = e₁ ∙ rw (copied, long, em, en) in
       let signs : ys ≡ sumSignature (topIn d h) h t root =
       ey ∙ ap (λ (x : List ℕ). sumSignature x h t root) (sym (take-append-drop (treeSize h) d)) ∙ sum-front h (topIn d h) (drop (treeSize h) d) front t root in
       e₂ ∙ ap (λ (x : List ℕ). withoutSecret x h) e ∙ without-front h (topIn d h) (ys ++ drop (nextAt h) d) front ∙ rw signs
 
--- `close_seam`: the tree is sealed, and the next seed is written
+-- `close_seam`: the root below is signed, and the next seed is written
 without-size : (d : List ℕ) (h : ℕ) → length d ≡ treeSize h → length (withoutSecret d h) ≡ treeSize h
 without-size d h l =
     rw (length-append, length-take-le (96 * h) d (let z : 96 * h ≤ length d = omega arith in z), length-append, zeros-length, length-drop) (omega arith)
@@ -120,11 +120,11 @@ module _ (s d : List ℕ) (h g t : ℕ) {hs gs : List ℕ} (e : hs ≡ g ∷ gs)
   unfolding partRoot
   root-more eo er = rw e (er ∙ rw eo)
 
-  pub grown-more : {n k size w : ℕ} {own first stored child vouched ys zs d₃ : List ℕ} → n ≡ treeSize h → k ≡ seamSize h → length ys ≡ n
+  pub grown-more : {n k size w : ℕ} {own first stored child signed-below ys zs d₃ : List ℕ} → n ≡ treeSize h → k ≡ seamSize h → length ys ≡ n
       → seamSize h ≤ length d → size ≡ length d → w ≡ 2 ^ total g gs → own ≡ left s → first ≡ right s → stored ≡ chain first (t / w)
-      → child ≡ left stored → ys ≡ treeAt own h (t / w) → vouched ≡ partRoot child g gs → zs ≡ partAt child g gs (t % w)
+      → child ≡ left stored → ys ≡ treeAt own h (t / w) → signed-below ≡ partRoot child g gs → zs ≡ partAt child g gs (t % w)
       → (let d₂ = take k (ys ++ drop n d) ++ (zs ++ drop (size - k) (drop k (ys ++ drop n d))) in
-      d₃ ≡ seam (topIn d₂ h) h (t / w) stored vouched (drop (seamSize h) d₂))
+      d₃ ≡ seam (topIn d₂ h) h (t / w) stored signed-below (drop (seamSize h) d₂))
       → d₃ ≡ partAt s h hs t
   unfolding partAt
   grown-more {ys = ys} {zs} en ek ly ld el ew eo ef es ec ey ev ez e₃ =
@@ -156,12 +156,12 @@ move-room h a b l e =
 pub crossing-count : {k n x y : ℕ} → k ≡ x → n ≡ y → k + n ≡ x + y
 crossing-count ek en = rw (ek, en)
 
-pub crossing : (d : List ℕ) (h g : ℕ) (gs : List ℕ) (a b t : ℕ) {m n k size : ℕ} {next stored child vouched ys zs d₃ : List ℕ}
+pub crossing : (d : List ℕ) (h g : ℕ) (gs : List ℕ) (a b t : ℕ) {m n k size : ℕ} {next stored child signed-below ys zs d₃ : List ℕ}
     → n ≡ treeSize h → k ≡ seamSize h → length ys ≡ n → seamSize h ≤ length d → size ≡ length d → m ≡ nextAt h → next ≡ part d m 32
-    → stored ≡ chain next (b - a - 1) → child ≡ left stored → ys ≡ movedTree (take n d) h a b → vouched ≡ partRoot child g gs
+    → stored ≡ chain next (b - a - 1) → child ≡ left stored → ys ≡ movedTree (take n d) h a b → signed-below ≡ partRoot child g gs
     → zs ≡ partAt child g gs t
     → (let d₂ = take k (ys ++ drop n d) ++ (zs ++ drop (size - k) (drop k (ys ++ drop n d))) in
-    d₃ ≡ seam (topIn d₂ h) h b stored vouched (drop (seamSize h) d₂))
+    d₃ ≡ seam (topIn d₂ h) h b stored signed-below (drop (seamSize h) d₂))
     → d₃ ≡ crossed d h g gs a b t
 unfolding crossed
 crossing d h g gs a b t {ys = ys} {zs} en ek ly ld el em ex es ec ey ev ez e₃ =

@@ -10,7 +10,8 @@ use borrow.Author.Tests.{not-true, not-false, eq-eqb, ne-eqb}
 use Rattle.fields.specs.Fields.{part, put}
 use Rattle.fields.specs.Tests.{pick}
 use Rattle.fields.proofs.Laws.{put-whole, tail-whole, tail-back}
-use Rattle.ed25519.specs.Tally.{Run, asked, Asks, Leaves}
+use Rattle.ed25519.specs.Tally.{Run, asked}
+use Rattle.ed25519.specs.Inside.{Asks, Leaves}
 use Rattle.ed25519.proofs.Tally.{then, stop}
 use Rattle.tree.specs.Answers.{grewOf}
 use Rattle.tree.specs.declared.moving.Grew.{Grew}
@@ -18,7 +19,7 @@ use Rattle.tree.specs.declared.moving.Grew.the-variants.{Count, Unanswered}
 use Rattle.tree.specs.Move.{movedTree, countMove, callsMove}
 use Rattle.rules.specs.Part.{total, outer, partAt, seamSize, countNewPart, callsNewPart, callsPart}
 use Rattle.rules.specs.Calls.{Work}
-use Rattle.part.specs.Work.{Works, Commits, newWork, crossed, partWork, crossWork}
+use Rattle.part.specs.Inside.{Works, Commits, newWork, crossed, partWork, crossWork}
 use Rattle.part.proofs.Bodies.{moved-last, count-last, within-body, within-count, across-body, across-count}
 
 -- work of n module calls

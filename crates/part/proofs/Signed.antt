@@ -9,11 +9,11 @@ use lib.ListN.{length, take, drop, length-append, length-drop, take-append-drop}
 use lib.Seq.{take-at, drop-drop, length-take-le}
 use Rattle.fields.specs.Fields.{part, put}
 use Rattle.fields.proofs.Laws.{length-part, put-over, tail-whole, tail-back}
-use Rattle.ed25519.specs.Tally.{Leaves}
+use Rattle.ed25519.specs.Inside.{Leaves}
 use Rattle.tree.specs.Tree.{treeSize, rootIn}
 use Rattle.tree.specs.Sum.{sumSize, sumSignature, pathFits, leafAccepts, sumVerdict}
 use Rattle.rules.specs.Part.{total, outer, inner, nextAt, seamSize, bondIn, sumsSize, rootsSize, sumsIn, rootsIn, partSignature, sumsVerdict, partVerdict}
-use Rattle.part.specs.Work.{pathsFit, leavesAccept}
+use Rattle.part.specs.Inside.{pathsFit, leavesAccept}
 
 -- `put_sums`
 pub sums-last : (d m : List ℕ) (h t : ℕ) {hs ys : List ℕ} → hs ≡ [] → ys ≡ sumSignature d h t m → ys ≡ sumsIn d h hs t m

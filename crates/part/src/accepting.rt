@@ -4,7 +4,7 @@ ghost use Prim.Native.Nat.{_+_, _^_, _<_, _≤_};
 ghost use lib.ListN.{length, drop};
 ghost use Rattle.rules.specs.Part.{total, sumsSize, rootsSize, partVerdict};
 ghost use Rattle.part.specs.Heights.{belowOf, Fits};
-ghost use Rattle.part.specs.Work.{pathsFit, leavesAccept};
+ghost use Rattle.part.specs.Inside.{pathsFit, leavesAccept};
 use crate::heights::Heights;
 use crate::heights::below;
 use crate::heights::steps;

@@ -6,7 +6,7 @@ ghost use lib.ListN.{length};
 ghost use Rattle.rules.specs.Part.{total, partSize};
 ghost use Rattle.rules.specs.Table.{maxHeight};
 ghost use Rattle.part.specs.Heights.{belowOf, longest, Fits};
-ghost use Rattle.part.specs.Work.{Works, Commits, crossWork, partWork};
+ghost use Rattle.part.specs.Inside.{Works, Commits, crossWork, partWork};
 use crate::growing::count_new_part;
 use crate::growing::grow_part;
 use crate::heights::Heights;

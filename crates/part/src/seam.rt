@@ -4,7 +4,7 @@ ghost use mathlib.Core.List.{_++_};
 ghost use mathlib.Core.Bool.{true};
 ghost use Prim.Native.Nat.{_^_, _<_, _≤_};
 ghost use lib.ListN.{length, drop};
-ghost use Rattle.ed25519.specs.Tally.{Asks};
+ghost use Rattle.ed25519.specs.Inside.{Asks};
 ghost use Rattle.tree.specs.Tree.{withoutSecret};
 ghost use Rattle.tree.specs.Sum.{sumSignature};
 ghost use Rattle.rules.specs.Part.{topIn, nextAt, seamSize, chain, seam};
@@ -36,7 +36,7 @@ fn blank() -> [u8; 480]
 
 // The leaf of the tree at the front of body signs root, the sum signature is written behind the tree, and the leaf's secret is made zero. Answers whether the
 // module has answered; where it has not, nothing is written.
-fn seal(body: &mut [u8], h: usize, t: usize, root: [u8; 32], tally: &mut u64) -> bool
+fn sign_below(body: &mut [u8], h: usize, t: usize, root: [u8; 32], tally: &mut u64) -> bool
     requires { ⌜ (h ≤ maxHeight) × (t < 2 ^ h) × (nextAt h ≤ length (now body)) ⌝ }
     ensures { λ r. ⌜ Asks 1 (now (tally .entry)) r (now (tally .exit)) ⌝ }
     ensures { λ r. ⌜ (r ≡ true → now (body .exit) ≡ withoutSecret (topIn (now (body .entry)) h) h
@@ -68,7 +68,7 @@ pub(crate) fn close_seam(
     ensures { λ r. ⌜ (r ≡ true → now (body .exit) ≡ seam (topIn (now (body .entry)) h) h t stored root (drop (seamSize h) (now (body .entry)))) ⌝ }
 {
     let next = tree::right(stored);
-    let given = seal(body, h, t, root, tally);
+    let given = sign_below(body, h, t, root, tally);
     if !given {
         return false;
     }

@@ -2,7 +2,7 @@
 ghost use mathlib.Core.Path.{_≡_};
 ghost use Prim.Native.Nat.{_+_, _^_, _<_, _≤_};
 ghost use lib.ListN.{length};
-ghost use Rattle.ed25519.specs.Tally.{Asks, Leaves};
+ghost use Rattle.ed25519.specs.Inside.{Asks, Leaves};
 ghost use Rattle.rules.specs.Part.{total, partSize, sumsSize, rootsSize, sumsIn, rootsIn, partSignature};
 ghost use Rattle.part.specs.Heights.{belowOf, Fits};
 use crate::heights::Heights;

@@ -1,4 +1,4 @@
--- What a signed message tells (document 02, CR 2): the new text tells card, serial and amount; the old one does not, and is never a new one.
+-- What a signed message tells (request 2): the new text tells card, serial and amount; the old one does not, and is never a new one.
 use mathlib.Core.Path.{_≡_, refl, sym, ap, _∙_}
 use mathlib.Core.Bool.{true}
 use Prim.Native.Nat.{ℕ, _<_}

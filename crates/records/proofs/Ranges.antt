@@ -18,12 +18,13 @@ use Rattle.records.specs.declared.Edition.{Edition}
 use Rattle.records.specs.declared.Edition.the-variants.{Plain, Tabbed}
 use Rattle.records.specs.declared.reading.Word.{Word}
 use Rattle.records.specs.declared.reading.Word.the-variants.{Says, Unknown}
-use Rattle.records.specs.declared.Header.{Header}
+use Rattle.records.specs.declared.FirstLine.{FirstLine}
 use Rattle.records.specs.declared.Record.{Record}
 use Rattle.records.specs.declared.Entry.{Entry}
 use Rattle.records.specs.declared.Entry.the-variants.{WellFormed, IllFormed}
-use Rattle.records.specs.FirstLine.{right, wrong, editionIn, said, shortHeights, headWith, headInBy, headIn, Fits}
-use Rattle.records.specs.Records.{cardIn, numbersIn, Found, malformed, signed, signedIn, recordIn, InRange}
+use Rattle.records.specs.FirstLine.{rightHead, wrongHead, editionIn, said, shortHeights, headWith, headInBy, headIn}
+use Rattle.records.specs.Inside.{LowHeights}
+use Rattle.records.specs.Records.{cardIn, numbersIn, LaterLine, malformed, recorded, signedIn, recordIn, InRange}
 
 -- a number was given
 pub record Given {A : Type 0} (n : Number) (f : ℕ → A) (x : A) : Type 0 where
@@ -50,41 +51,41 @@ chosen true x y never e = e
 chosen false x y never e = absurd (never e)
 
 -- HEIGHTS
-pub wrong-not : {h : Header} → wrong ≡ right h → ⊥
+pub wrong-not : {h : FirstLine} → wrongHead ≡ rightHead h → ⊥
 wrong-not e = let z : _≡_ {A = ℕ} 0 1 = cc in omega arith
 
-with-fits : (v : Edition) (h1 h2 : ℕ) (key : List ℕ) {h : Header} → h1 ≤ 12 → h2 ≤ 12 → headWith v h1 h2 key ≡ right h → Fits h
+with-fits : (v : Edition) (h1 h2 : ℕ) (key : List ℕ) {h : FirstLine} → h1 ≤ 12 → h2 ≤ 12 → headWith v h1 h2 key ≡ rightHead h → LowHeights h
 unfolding headWith
 with-fits v h1 h2 key {h} a b e =
-    let p = chosen (isHexOf 32 key) (right (record { edition = v; h1 = h1; h2 = h2; key = bytesOf key })) wrong wrong-not e in
-    let q : _≡_ {A = Header} (record { edition = v; h1 = h1; h2 = h2; key = bytesOf key }) h = cc in
-    subst Fits q (record { first = a; second = b })
+    let p = chosen (isHexOf 32 key) (rightHead (record { edition = v; h1 = h1; h2 = h2; key = bytesOf key })) wrongHead wrong-not e in
+    let q : _≡_ {A = FirstLine} (record { edition = v; h1 = h1; h2 = h2; key = bytesOf key }) h = cc in
+    subst LowHeights q (record { first = a; second = b })
 
 short-fits : (e : Edition) → (shortHeights e .h1 ≤ 12) × (shortHeights e .h2 ≤ 12)
 short-fits Plain = (omega arith, omega arith)
 short-fits Tabbed = (omega arith, omega arith)
 
-pub head-fits : (fs : List (List ℕ)) {h : Header} → headIn fs ≡ right h → Fits h
+pub head-low : (fs : List (List ℕ)) {h : FirstLine} → headIn fs ≡ rightHead h → LowHeights h
 unfolding headInBy
-head-fits [] e = absurd (wrong-not e)
-head-fits (a ∷ []) e = absurd (wrong-not e)
-head-fits (word ∷ key ∷ []) e =
-    let told = said-some wrong (editionIn word) _ wrong-not e in
+head-low [] e = absurd (wrong-not e)
+head-low (a ∷ []) e = absurd (wrong-not e)
+head-low (word ∷ key ∷ []) e =
+    let told = said-some wrongHead (editionIn word) _ wrong-not e in
     let low = short-fits (told .edition) in
     with-fits (told .edition) _ _ key (low .0) (low .1) (told .so)
-head-fits (a ∷ b ∷ c ∷ []) e = absurd (wrong-not e)
-head-fits (word ∷ a ∷ b ∷ key ∷ []) e =
-    let told = said-some wrong (editionIn word) _ wrong-not e in
-    let first = given-some wrong (numberIn 0 12 a) _ wrong-not (told .so) in
-    let second = given-some wrong (numberIn 0 12 b) _ wrong-not (first .so) in
+head-low (a ∷ b ∷ c ∷ []) e = absurd (wrong-not e)
+head-low (word ∷ a ∷ b ∷ key ∷ []) e =
+    let told = said-some wrongHead (editionIn word) _ wrong-not e in
+    let first = given-some wrongHead (numberIn 0 12 a) _ wrong-not (told .so) in
+    let second = given-some wrongHead (numberIn 0 12 b) _ wrong-not (first .so) in
     with-fits (told .edition) (first .value) (second .value) key (within 0 12 a (first .is) .1) (within 0 12 b (second .is) .1) (second .so)
-head-fits (a ∷ b ∷ c ∷ d ∷ f ∷ r) e = absurd (wrong-not e)
+head-low (a ∷ b ∷ c ∷ d ∷ f ∷ r) e = absurd (wrong-not e)
 
 -- RECORDS
 pub ill-not : {r : Record} → IllFormed ≡ WellFormed r → ⊥
 ill-not e = let z : _≡_ {A = ℕ} 0 1 = cc in omega arith
 
-numbers-range : (h : Header) (step card serial amount : List ℕ) {r : Record} → numbersIn h step card serial amount ≡ WellFormed r → InRange r
+numbers-range : (h : FirstLine) (step card serial amount : List ℕ) {r : Record} → numbersIn h step card serial amount ≡ WellFormed r → InRange r
 unfolding numbersIn cardIn
 numbers-range h step card serial amount {r} e =
     let t = given-some IllFormed (numberIn 0 (steps (h .h1) (h .h2) - 1) step) _ ill-not e in
@@ -101,19 +102,19 @@ numbers-range h step card serial amount {r} e =
     })
 
 -- as it was found
-abbrev pub Ranged : Found → Type 0
+abbrev pub Ranged : LaterLine → Type 0
 Ranged malformed = Unit {0}
-Ranged (signed r s) = InRange r
+Ranged (recorded r s) = InRange r
 
-pick-ranged : (t : Bool) (x : Found) → Ranged x → Ranged (pick t x malformed)
+pick-ranged : (t : Bool) (x : LaterLine) → Ranged x → Ranged (pick t x malformed)
 pick-ranged true x i = i
 pick-ranged false x i = tt
 
-signed-ranged : (h : Header) (e : Entry) (s : List ℕ) → ((r : Record) → e ≡ WellFormed r → InRange r) → Ranged (signedIn h e s)
+signed-ranged : (h : FirstLine) (e : Entry) (s : List ℕ) → ((r : Record) → e ≡ WellFormed r → InRange r) → Ranged (signedIn h e s)
 signed-ranged h IllFormed s f = tt
-signed-ranged h (WellFormed r) s f = pick-ranged (isHexOf (signatureSize (h .h1) (h .h2)) s) (signed r (bytesOf s)) (f r refl)
+signed-ranged h (WellFormed r) s f = pick-ranged (isHexOf (signatureSize (h .h1) (h .h2)) s) (recorded r (bytesOf s)) (f r refl)
 
-pub record-ranged : (h : Header) (fs : List (List ℕ)) → Ranged (recordIn h fs)
+pub record-ranged : (h : FirstLine) (fs : List (List ℕ)) → Ranged (recordIn h fs)
 unfolding recordIn
 record-ranged h [] = tt
 record-ranged h (a ∷ []) = tt

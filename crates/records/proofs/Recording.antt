@@ -3,22 +3,23 @@ use mathlib.Core.Path.{_≡_, refl, sym, ap, _∙_}
 use mathlib.Core.List.{List, [], _∷_}
 use mathlib.Core.Bool.{true, false}
 use Prim.Native.Nat.{ℕ, _-_}
-use native.Mathlib.Omega.{arith}
 use lib.ListN.{length}
 use borrow.Author.Tests.{eq-eqb, ne-eqb}
 use Rattle.text.specs.Numerals.{numberIn, digitsUpTo}
-use Rattle.text.specs.Hex.{isHexOf, bytesOf, Unhexes}
+use Rattle.text.specs.Hex.{isHexOf, bytesOf}
+use Rattle.text.specs.Inside.{Unhexes}
 use Rattle.text.proofs.Nibbles.{full-hex, other-hex}
 use Rattle.text.specs.declared.Number.the-variants.{Value, Bad}
 use Rattle.text.specs.declared.Decoded.{Decoded}
 use Rattle.text.specs.declared.Decoded.the-variants.{Full, Other}
 use Rattle.rules.specs.Table.{steps, signatureSize}
-use Rattle.records.specs.declared.Header.{Header}
+use Rattle.records.specs.declared.FirstLine.{FirstLine}
 use Rattle.records.specs.declared.Record.{Record}
 use Rattle.records.specs.declared.Entry.{Entry}
 use Rattle.records.specs.declared.Entry.the-variants.{WellFormed, IllFormed}
-use Rattle.records.specs.Records.{cardIn, numbersIn, Found, malformed, signed, signedIn, recordIn, entryOf, Reads}
-use Rattle.records.specs.Splitting.{OtherFields}
+use Rattle.records.specs.Records.{cardIn, numbersIn, LaterLine, malformed, recorded, signedIn, recordIn}
+use Rattle.records.specs.Inside.{entryOf, ReadsLine, OtherFields}
+use Rattle.records.proofs.Ranges.{ill-not}
 
 module _ (s : List ℕ) where
   pub card-length : (length s ≡ 16 → ⊥) → cardIn s ≡ Bad
@@ -29,7 +30,7 @@ module _ (s : List ℕ) where
   unfolding cardIn
   card-digits h = simp (eq-eqb (length s) 16 h)
 
-module _ (h : Header) (step card serial amount : List ℕ) (last : ℕ) (el : last ≡ steps (h .h1) (h .h2) - 1) where
+module _ (h : FirstLine) (step card serial amount : List ℕ) (last : ℕ) (el : last ≡ steps (h .h1) (h .h2) - 1) where
   abbrev Is : Entry → Type 0
   Is e = numbersIn h step card serial amount ≡ e
 
@@ -57,7 +58,7 @@ module _ (h : Header) (step card serial amount : List ℕ) (last : ℕ) (el : la
         all-numbers a e = rw (← el, et, ec, en, e)
 
 -- lines of other than five fields
-pub record-other : (h : Header) (fs : List (List ℕ)) → OtherFields fs → recordIn h fs ≡ malformed
+pub record-other : (h : FirstLine) (fs : List (List ℕ)) → OtherFields fs → recordIn h fs ≡ malformed
 unfolding recordIn
 record-other h [] o = refl
 record-other h (a ∷ []) o = refl
@@ -67,52 +68,49 @@ record-other h (a ∷ b ∷ c ∷ d ∷ []) o = refl
 record-other h (a ∷ b ∷ c ∷ d ∷ e ∷ []) o = absurd (o .not-five refl)
 record-other h (a ∷ b ∷ c ∷ d ∷ e ∷ f ∷ r) o = refl
 
-pub record-two : (h : Header) {fs : List (List ℕ)} {a b : List ℕ} → fs ≡ a ∷ b ∷ [] → recordIn h fs ≡ malformed
+pub record-two : (h : FirstLine) {fs : List (List ℕ)} {a b : List ℕ} → fs ≡ a ∷ b ∷ [] → recordIn h fs ≡ malformed
 unfolding recordIn
 record-two h p = ap (recordIn h) p
 
-pub record-four : (h : Header) {fs : List (List ℕ)} {a b c d : List ℕ} → fs ≡ a ∷ b ∷ c ∷ d ∷ [] → recordIn h fs ≡ malformed
+pub record-four : (h : FirstLine) {fs : List (List ℕ)} {a b c d : List ℕ} → fs ≡ a ∷ b ∷ c ∷ d ∷ [] → recordIn h fs ≡ malformed
 unfolding recordIn
 record-four h p = ap (recordIn h) p
 
 -- a malformed line was read
-pub reads-none : {found : Found} {room room′ : List ℕ} → found ≡ malformed → room′ ≡ room → Reads found room IllFormed room′
+pub reads-none : {found : LaterLine} {room room′ : List ℕ} → found ≡ malformed → room′ ≡ room → ReadsLine found room IllFormed room′
 reads-none e l = record { answers = sym (ap entryOf e); leaves = l ∙ rw e }
 
 -- a line of five fields
-module _ (h : Header) {fs : List (List ℕ)} {step card serial amount hex : List ℕ} (are : fs ≡ step ∷ card ∷ serial ∷ amount ∷ hex ∷ []) {entry : Entry} (en : entry ≡ numbersIn h step card serial amount) where
-  found-in : recordIn h fs ≡ signedIn h entry hex
+module _ (h : FirstLine) {fs : List (List ℕ)} {step card serial amount hex : List ℕ} (are : fs ≡ step ∷ card ∷ serial ∷ amount ∷ hex ∷ []) {entry : Entry} (en : entry ≡ numbersIn h step card serial amount) where
+  later-in : recordIn h fs ≡ signedIn h entry hex
   unfolding recordIn
-  found-in = ap (recordIn h) are ∙ rw en
+  later-in = ap (recordIn h) are ∙ rw en
 
-  pub no-numbers : {room : List ℕ} → entry ≡ IllFormed → Reads (recordIn h fs) room entry room
-  no-numbers e = rw e (reads-none (found-in ∙ rw e) refl)
+  pub no-numbers : {room : List ℕ} → entry ≡ IllFormed → ReadsLine (recordIn h fs) room entry room
+  no-numbers e = rw e (reads-none (later-in ∙ rw e) refl)
 
   module _ {r : Record} (e : entry ≡ WellFormed r) {room room′ : List ℕ} {d : Decoded} (l : length room ≡ signatureSize (h .h1) (h .h2)) (u : Unhexes hex room d room′) where
-    pub no-signature : d ≡ Other → Reads (recordIn h fs) room IllFormed room′
+    pub no-signature : d ≡ Other → ReadsLine (recordIn h fs) room IllFormed room′
     no-signature o =
         let f = other-hex u o in
         let g : isHexOf (signatureSize (h .h1) (h .h2)) hex ≡ false = ap (λ (n : ℕ). isHexOf n hex) (sym l) ∙ f .0 in
-        reads-none (found-in ∙ rw (e, g)) (f .1)
+        reads-none (later-in ∙ rw (e, g)) (f .1)
 
-    pub with-signature : d ≡ Full → Reads (recordIn h fs) room entry room′
+    pub with-signature : d ≡ Full → ReadsLine (recordIn h fs) room entry room′
     with-signature o =
         let f = full-hex u o in
         let g : isHexOf (signatureSize (h .h1) (h .h2)) hex ≡ true = ap (λ (n : ℕ). isHexOf n hex) (sym l) ∙ f .0 in
-        let k : recordIn h fs ≡ signed r (bytesOf hex) = found-in ∙ rw (e, g) in
+        let k : recordIn h fs ≡ recorded r (bytesOf hex) = later-in ∙ rw (e, g) in
         record { answers = e ∙ rw k; leaves = f .1 ∙ rw k }
 
 -- THE OTHER WAY ROUND: what was found, from what was answered
-never : {r : Record} → IllFormed ≡ WellFormed r → ⊥
-never e = let z : _≡_ {A = ℕ} 0 1 = cc in omega arith
+pub later-none : (found : LaterLine) {room room′ : List ℕ} {entry : Entry} → ReadsLine found room entry room′ → entry ≡ IllFormed → found ≡ malformed
+later-none malformed p e = refl
+later-none (recorded r s) p e = absurd (ill-not (sym e ∙ p .answers))
 
-pub found-none : (found : Found) {room room′ : List ℕ} {entry : Entry} → Reads found room entry room′ → entry ≡ IllFormed → found ≡ malformed
-found-none malformed p e = refl
-found-none (signed r s) p e = absurd (never (sym e ∙ p .answers))
-
-pub found-signed : (found : Found) {room room′ : List ℕ} {entry : Entry} {r : Record} → Reads found room entry room′ → entry ≡ WellFormed r → found ≡ signed r room′
-found-signed malformed p e = absurd (never (sym (p .answers) ∙ e))
-found-signed (signed q s) {room} {room′} {entry} {r} p e =
+pub later-signed : (found : LaterLine) {room room′ : List ℕ} {entry : Entry} {r : Record} → ReadsLine found room entry room′ → entry ≡ WellFormed r → found ≡ recorded r room′
+later-signed malformed p e = absurd (ill-not (sym (p .answers) ∙ e))
+later-signed (recorded q s) {room} {room′} {entry} {r} p e =
     let k : WellFormed q ≡ WellFormed r = sym (p .answers) ∙ e in
     let l : room′ ≡ s = p .leaves in
     cc

@@ -1,6 +1,5 @@
 -- The record of a later line. Document 01, "The top-up journal": "step, card (16 digits), serial (1 to 4,294,967,295), amount in cents (1 to 2,000,000), signature".
--- Document 02, CR 2, for journals of the word `kes2`: the message "shall be card, serial and amount, one tab between".
-use mathlib.Core.Path.{_≡_}
+-- Request 2, for journals of the word `kes2`: the message "shall be card, serial and amount, one tab between".
 use mathlib.Core.List.{List, [], _∷_, _++_}
 use Prim.Native.Nat.{ℕ, _-_, _≤_}
 use lib.Dec.{eqb}
@@ -14,7 +13,7 @@ use Rattle.text.specs.declared.Number.the-variants.{Bad}
 use Rattle.rules.specs.Table.{steps, signatureSize}
 use Rattle.records.specs.declared.Edition.{Edition}
 use Rattle.records.specs.declared.Edition.the-variants.{Plain, Tabbed}
-use Rattle.records.specs.declared.Header.{Header}
+use Rattle.records.specs.declared.FirstLine.{FirstLine}
 use Rattle.records.specs.declared.Record.{Record}
 use Rattle.records.specs.declared.Entry.{Entry}
 use Rattle.records.specs.declared.Entry.the-variants.{WellFormed, IllFormed}
@@ -24,7 +23,7 @@ unfoldable pub cardIn : List ℕ → Number
 cardIn s = pick (eqb (length s) 16) (digitsUpTo 9999999999999999 s) Bad
 
 -- the numbers of a record; a step at or past T is none
-unfoldable pub numbersIn : Header → List ℕ → List ℕ → List ℕ → List ℕ → Entry
+unfoldable pub numbersIn : FirstLine → List ℕ → List ℕ → List ℕ → List ℕ → Entry
 numbersIn h step card serial amount =
     given IllFormed (numberIn 0 (steps (h .h1) (h .h2) - 1) step) (λ t.
     given IllFormed (cardIn card) (λ c.
@@ -33,17 +32,17 @@ numbersIn h step card serial amount =
     WellFormed (record { step = t; card = c; serial = n; amount = cents })))))
 
 -- a record and its signature, or a malformed line
-pub data Found : Type 0 where
-  malformed : Found
-  signed : Record → List ℕ → Found
+pub data LaterLine : Type 0 where
+  malformed : LaterLine
+  recorded : Record → List ℕ → LaterLine
 
 -- the signature is the hex of its exact length
-abbrev pub signedIn : Header → Entry → List ℕ → Found
+abbrev pub signedIn : FirstLine → Entry → List ℕ → LaterLine
 signedIn h IllFormed signature = malformed
-signedIn h (WellFormed r) signature = pick (isHexOf (signatureSize (h .h1) (h .h2)) signature) (signed r (bytesOf signature)) malformed
+signedIn h (WellFormed r) signature = pick (isHexOf (signatureSize (h .h1) (h .h2)) signature) (recorded r (bytesOf signature)) malformed
 
 -- the record that the fields of a line say
-unfoldable pub recordIn : Header → List (List ℕ) → Found
+unfoldable pub recordIn : FirstLine → List (List ℕ) → LaterLine
 recordIn h [] = malformed
 recordIn h (a ∷ []) = malformed
 recordIn h (a ∷ b ∷ []) = malformed
@@ -57,20 +56,6 @@ pub record InRange (r : Record) : Type 0 where
   pub cards : r .card ≤ 9999999999999999
   pub serials : (1 ≤ r .serial) × (r .serial ≤ 4294967295)
   pub amounts : (1 ≤ r .amount) × (r .amount ≤ 2000000)
-
--- what is answered of a line, and what is left in the room for its signature
-abbrev pub entryOf : Found → Entry
-entryOf malformed = IllFormed
-entryOf (signed r signature) = WellFormed r
-
-abbrev pub signatureOf : Found → List ℕ → List ℕ
-signatureOf malformed room = room
-signatureOf (signed r signature) room = signature
-
--- a line was read
-pub record Reads (found : Found) (room : List ℕ) (r : Entry) (room′ : List ℕ) : Type 0 where
-  pub answers : r ≡ entryOf found
-  pub leaves : room′ ≡ signatureOf found room
 
 -- what stands between card, serial and amount: "run together", or "one tab between"
 abbrev pub gap : Edition → List ℕ

@@ -15,28 +15,28 @@ pub enum Edition {
 }
 
 // The heights of a key's two trees.
-pub struct Heights {
+pub struct KeyHeights {
     pub h1: u64,
     pub h2: u64,
 }
 
 // What line 1 says.
-pub struct Header {
+pub struct FirstLine {
     pub edition: Edition,
     pub h1: u64,
     pub h2: u64,
     pub key: [u8; 32],
 }
 
-pub enum Answer {
+pub enum Heading {
     Right,
     Wrong,
 }
 
 // What reading line 1 answers; an enum holds no array, so the header stands beside the answer.
 pub struct Headed {
-    pub answer: Answer,
-    pub header: Header,
+    pub heading: Heading,
+    pub header: FirstLine,
 }
 
 // What another line says; its signature stands in lent bytes.

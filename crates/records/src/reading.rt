@@ -3,17 +3,17 @@ ghost use mathlib.Core.Path.{_≡_};
 ghost use Prim.Native.Nat.{_-_, _<_};
 ghost use lib.ListN.{length};
 ghost use Rattle.fields.specs.Tests.{same};
-ghost use Rattle.text.specs.Fields.{fields};
+ghost use Rattle.text.specs.Columns.{columns};
 ghost use Rattle.rules.specs.Table.{steps, signatureSize};
-ghost use Rattle.records.specs.FirstLine.{editionIn, shortHeights, wrong, headWith, headIn, noHeader, headed, Fits};
-ghost use Rattle.records.specs.Records.{cardIn, numbersIn, recordIn, Reads};
-ghost use Rattle.records.specs.Splitting.{TwoFields, FourFields, FiveFields};
-use crate::Answer;
+ghost use Rattle.records.specs.FirstLine.{editionIn, shortHeights, wrongHead, headWith, headIn};
+ghost use Rattle.records.specs.Inside.{noHeader, headed, LowHeights, ReadsLine, TwoFields, FourFields, FiveFields};
+ghost use Rattle.records.specs.Records.{cardIn, numbersIn, recordIn};
 use crate::Edition;
 use crate::Entry;
+use crate::FirstLine;
 use crate::Headed;
-use crate::Header;
-use crate::Heights;
+use crate::Heading;
+use crate::KeyHeights;
 use crate::Record;
 use crate::splitting::Tabs;
 use crate::splitting::split;
@@ -52,10 +52,10 @@ fn read_edition(word: &[u8]) -> Word
 }
 
 // What stands where there is no header.
-pub fn no_header() -> Header
+pub fn no_header() -> FirstLine
     ensures { λ r. ⌜ r ≡ noHeader ⌝ }
 {
-    Header {
+    FirstLine {
         edition: Edition::Plain,
         h1: 0,
         h2: 0,
@@ -64,10 +64,10 @@ pub fn no_header() -> Header
 }
 
 fn wrong() -> Headed
-    ensures { λ r. ⌜ r ≡ headed wrong ⌝ }
+    ensures { λ r. ⌜ r ≡ headed wrongHead ⌝ }
 {
     Headed {
-        answer: Answer::Wrong,
+        heading: Heading::Wrong,
         header: no_header(),
     }
 }
@@ -80,8 +80,8 @@ fn head_with(edition: Edition, h1: u64, h2: u64, hex: &[u8]) -> Headed
         return wrong();
     };
     Headed {
-        answer: Answer::Right,
-        header: Header {
+        heading: Heading::Right,
+        header: FirstLine {
             edition,
             h1,
             h2,
@@ -91,18 +91,18 @@ fn head_with(edition: Edition, h1: u64, h2: u64, hex: &[u8]) -> Headed
 }
 
 // What the short form means.
-fn short_heights(edition: Edition) -> Heights
+fn short_heights(edition: Edition) -> KeyHeights
     ensures { λ r. ⌜ r ≡ shortHeights edition ⌝ }
 {
     match edition {
-        Edition::Plain => Heights { h1: 6, h2: 6 },
-        Edition::Tabbed => Heights { h1: 8, h2: 4 },
+        Edition::Plain => KeyHeights { h1: 6, h2: 6 },
+        Edition::Tabbed => KeyHeights { h1: 8, h2: 4 },
     }
 }
 
 fn short_header(line: &[u8], a: usize) -> Headed
     requires { ⌜ TwoFields (now line) a ⌝ }
-    ensures { λ r. ⌜ r ≡ headed (headIn (fields (now (line .entry)))) ⌝ }
+    ensures { λ r. ⌜ r ≡ headed (headIn (columns (now (line .entry)))) ⌝ }
 {
     let Word::Says(edition) = read_edition(&line[0..a]) else {
         return wrong();
@@ -114,7 +114,7 @@ fn short_header(line: &[u8], a: usize) -> Headed
 
 fn full_header(line: &[u8], a: usize, b: usize, c: usize) -> Headed
     requires { ⌜ FourFields (now line) a b c ⌝ }
-    ensures { λ r. ⌜ r ≡ headed (headIn (fields (now (line .entry)))) ⌝ }
+    ensures { λ r. ⌜ r ≡ headed (headIn (columns (now (line .entry)))) ⌝ }
 {
     let Word::Says(edition) = read_edition(&line[0..a]) else {
         return wrong();
@@ -133,7 +133,7 @@ fn full_header(line: &[u8], a: usize, b: usize, c: usize) -> Headed
 
 // What line 1 says.
 pub fn read_header(line: &[u8]) -> Headed
-    ensures { λ r. ⌜ r ≡ headed (headIn (fields (now (line .entry)))) ⌝ }
+    ensures { λ r. ⌜ r ≡ headed (headIn (columns (now (line .entry)))) ⌝ }
     ensures { λ _. ⌜ now (line .exit) ≡ now (line .entry) ⌝ }
 {
     match split(line) {
@@ -149,8 +149,8 @@ pub fn read_header(line: &[u8]) -> Headed
     }
 }
 
-fn last_step(header: Header) -> u64
-    requires { ⌜ Fits header ⌝ }
+fn last_step(header: FirstLine) -> u64
+    requires { ⌜ LowHeights header ⌝ }
     ensures { λ r. ⌜ (r ≡ steps (header .h1) (header .h2) - 1) × (r < 16777216) ⌝ }
 {
     key::layout::steps(header.h1 as usize, header.h2 as usize) as u64 - 1
@@ -165,8 +165,8 @@ fn read_card(s: &[u8]) -> Number
     read_digits(s, 9999999999999999)
 }
 
-fn read_numbers(header: Header, step: &[u8], card: &[u8], serial: &[u8], amount: &[u8]) -> Entry
-    requires { ⌜ Fits header ⌝ }
+fn read_numbers(header: FirstLine, step: &[u8], card: &[u8], serial: &[u8], amount: &[u8]) -> Entry
+    requires { ⌜ LowHeights header ⌝ }
     ensures { λ r. ⌜ r ≡ numbersIn header (now (step .entry)) (now (card .entry)) (now (serial .entry)) (now (amount .entry)) ⌝ }
 {
     let last = last_step(header);
@@ -191,7 +191,7 @@ fn read_numbers(header: Header, step: &[u8], card: &[u8], serial: &[u8], amount:
 }
 
 fn read_fields(
-    header: Header,
+    header: FirstLine,
     line: &[u8],
     a: usize,
     b: usize,
@@ -199,8 +199,8 @@ fn read_fields(
     d: usize,
     signature: &mut [u8],
 ) -> Entry
-    requires { ⌜ Fits header × FiveFields (now line) a b c d × (length (now signature) ≡ signatureSize (header .h1) (header .h2)) ⌝ }
-    ensures { λ r. ⌜ Reads (recordIn header (fields (now (line .entry)))) (now (signature .entry)) r (now (signature .exit)) ⌝ }
+    requires { ⌜ LowHeights header × FiveFields (now line) a b c d × (length (now signature) ≡ signatureSize (header .h1) (header .h2)) ⌝ }
+    ensures { λ r. ⌜ ReadsLine (recordIn header (columns (now (line .entry)))) (now (signature .entry)) r (now (signature .exit)) ⌝ }
 {
     let card = a + 1;
     let serial = b + 1;
@@ -224,9 +224,9 @@ fn read_fields(
 }
 
 // The record of a line; its signature goes into signature, which a malformed line leaves as found.
-pub fn read_record(header: Header, line: &[u8], signature: &mut [u8]) -> Entry
-    requires { ⌜ Fits header × (length (now signature) ≡ signatureSize (header .h1) (header .h2)) ⌝ }
-    ensures { λ r. ⌜ Reads (recordIn header (fields (now (line .entry)))) (now (signature .entry)) r (now (signature .exit)) ⌝ }
+pub fn read_record(header: FirstLine, line: &[u8], signature: &mut [u8]) -> Entry
+    requires { ⌜ LowHeights header × (length (now signature) ≡ signatureSize (header .h1) (header .h2)) ⌝ }
+    ensures { λ r. ⌜ ReadsLine (recordIn header (columns (now (line .entry)))) (now (signature .entry)) r (now (signature .exit)) ⌝ }
     ensures { λ _. ⌜ now (line .exit) ≡ now (line .entry) ⌝ }
 {
     match split(line) {

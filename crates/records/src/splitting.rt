@@ -1,6 +1,6 @@
 // Where the fields of a line end.
 ghost use mathlib.Core.Path.{_≡_};
-ghost use Rattle.records.specs.Splitting.{Splits};
+ghost use Rattle.records.specs.Inside.{Splits};
 
 pub enum Tabs {
     Two {

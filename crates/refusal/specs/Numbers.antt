@@ -1,6 +1,8 @@
--- The number of each refusal: the first column of document 01's table "Numbers a caller can get", and 8 of request 3, the fair-day cache.
--- 0, done or accepted, and 100, well formed but not accepted, are no refusals: the answers of each call give them.
+-- The number of each refusal: the first column of document 01's table "Numbers a caller can get", 8 of request 3, the fair-day cache, and 9 of request 4; and
+-- of an answer. 100, well formed but not accepted, is no refusal: a verdict gives it.
 use Prim.Native.Nat.{ℕ}
+use Rattle.refusal.specs.declared.Answer.{Answer}
+use Rattle.refusal.specs.declared.Answer.the-variants.{Done, Refused}
 use Rattle.refusal.specs.declared.Refusal.{Refusal}
 use Rattle.refusal.specs.declared.Refusal.the-variants.{Height, SeedOrKey, Table, Length, NotLater, PastEnd, TooLong, Entries, Unanswered}
 
@@ -24,3 +26,7 @@ numberOf TooLong = 7
 numberOf Entries = 8
 -- a call of the Ed25519 module was not answered
 numberOf Unanswered = 9
+
+abbrev pub answerNumber : Answer → ℕ
+answerNumber Done = 0
+answerNumber (Refused why) = numberOf why

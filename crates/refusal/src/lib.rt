@@ -1,4 +1,4 @@
-// Every reason for which a call of the library can refuse.
+// Why a call of the library refuses, and what one answers that has nothing else to tell.
 ghost use mathlib.Core.Path.{_≡_};
 ghost use Rattle.refusal.specs.Numbers.{numberOf};
 
@@ -12,6 +12,12 @@ pub enum Refusal {
     TooLong,
     Entries,
     Unanswered,
+}
+
+// What reading a key, signing, hashing and the calls of a fair day answer.
+pub enum Answer {
+    Done,
+    Refused(Refusal),
 }
 
 // The number that a caller in C gets.

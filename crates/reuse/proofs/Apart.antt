@@ -15,7 +15,7 @@ use Rattle.fields.specs.Fields.{part}
 use Rattle.rfc7693.specs.Rfc7693.{hash}
 use Rattle.blake2b.proofs.Facts.{hash-length}
 use Rattle.tree.specs.Sum.{joined, climb}
-use Rattle.reuse.specs.Twice.{stringAt, Told, collide, mirror}
+use Rattle.reuse.specs.Twice.{stringAt, Repeats, collide, mirror}
 
 -- equal, or not
 pub alike : (x y : List ℕ) → (x ≡ y) ⊎ (x ≡ y → ⊥)
@@ -128,7 +128,7 @@ differ (suc h) x y ws t u l lx ly f e = go (differ h) (alike (up x ws t) (up y w
         (hash-length (joined (u % 2) y (take 32 ws))) k e)
 
 -- ONE VALUE, TWO STEPS, ONE ROOT
-told-up : (x ws : List ℕ) (h t u : ℕ) → t % 2 ≡ u % 2 → Told (up x ws t) (drop 32 ws) h (t / 2) (u / 2) → Told x ws (suc h) t u
+told-up : (x ws : List ℕ) (h t u : ℕ) → t % 2 ≡ u % 2 → Repeats (up x ws t) (drop 32 ws) h (t / 2) (u / 2) → Repeats x ws (suc h) t u
 unfolding climb
 told-up x ws h t u e (collide i l f k) =
     let ex : up x ws t ≡ up x ws u = rw e in
@@ -139,11 +139,11 @@ told-up x ws h t u e (mirror i l p q) =
     let ex : up x ws t ≡ up x ws u = rw e in
     mirror (suc i) (omega arith) (p ∙ met-up ws i) (rw (← ex) (q ∙ met-up ws i))
 
-from-clash : (x ws : List ℕ) (h t u : ℕ) → Clash x x ws h t u → Told x ws h t u
+from-clash : (x ws : List ℕ) (h t u : ℕ) → Clash x x ws h t u → Repeats x ws h t u
 from-clash x ws h t u c = collide (c .level) (c .below) (c .apart) (c .meets)
 
 pub twice : (h : ℕ) (x ws : List ℕ) (t u : ℕ) → length ws ≡ 32 * h → length x ≡ 32 → t < 2 ^ h → u < 2 ^ h → (t ≡ u → ⊥)
-    → climb x ws h t ≡ climb x ws h u → Told x ws h t u
+    → climb x ws h t ≡ climb x ws h u → Repeats x ws h t u
 unfolding climb
 twice zero x ws t u l lx lt lu f e = absurd (f (let z : t ≡ u = omega arith in z))
 twice (suc h) x ws t u l lx lt lu f e = go (twice h) (ℕ-discrete (t % 2) (u % 2))
@@ -161,13 +161,13 @@ twice (suc h) x ws t u l lx lt lu f e = go (twice h) (ℕ-discrete (t % 2) (u % 
     pt = pow-suc 2 h
 
     parts : (t % 2 ≡ u % 2 → ⊥) → (joined (t % 2) x (take 32 ws) ≡ joined (u % 2) x (take 32 ws)) ⊎ (joined (t % 2) x (take 32 ws) ≡ joined (u % 2) x (take 32 ws) → ⊥)
-        → Told x ws (suc h) t u
+        → Repeats x ws (suc h) t u
     parts d (inl k) =
         let m = mirrored t u x (take 32 ws) lx lw d k in
         mirror 0 (omega arith) m m
     parts d (inr k) = meet (alike (up x ws t) (up x ws u))
       where
-        meet : (up x ws t ≡ up x ws u) ⊎ (up x ws t ≡ up x ws u → ⊥) → Told x ws (suc h) t u
+        meet : (up x ws t ≡ up x ws u) ⊎ (up x ws t ≡ up x ws u → ⊥) → Repeats x ws (suc h) t u
         meet (inl q) =
             collide 0 (omega arith) (λ y. k (sym (first-string x ws t) ∙ y ∙ first-string x ws u))
             (ap hash (first-string x ws t) ∙ q ∙ ap hash (sym (first-string x ws u)))
@@ -178,7 +178,7 @@ twice (suc h) x ws t u l lx lt lu f e = go (twice h) (ℕ-discrete (t % 2) (u % 
             (hash-length (joined (u % 2) x (take 32 ws))) q e))
 
     go : ((x ws : List ℕ) (t u : ℕ) → length ws ≡ 32 * h → length x ≡ 32 → t < 2 ^ h → u < 2 ^ h → (t ≡ u → ⊥) → climb x ws h t ≡ climb x ws h u
-        → Told x ws h t u) → Dec (t % 2 ≡ u % 2) → Told x ws (suc h) t u
+        → Repeats x ws h t u) → Dec (t % 2 ≡ u % 2) → Repeats x ws (suc h) t u
     go ih (yes b) =
         let ex : up x ws t ≡ up x ws u = rw b in
         told-up x ws h t u b

@@ -10,6 +10,7 @@ use lib.Dec.{ltb, leb, eqb}
 use lib.ListN.{length, take, drop, length-drop}
 use lib.Seq.{length-take-le}
 use borrow.Author.Tests.{eqb-true, leb-false}
+use Rattle.fields.proofs.Cases.{both}
 use Rattle.fields.specs.Tests.{pick, same}
 use Rattle.blake2b.specs.Calls.{limit}
 use Rattle.rfc7693.specs.Rfc7693.{hash}
@@ -25,10 +26,6 @@ use Rattle.rules.proofs.Steps.{inner-lt, outer-lt}
 use Rattle.reuse.specs.Twice.{Tells}
 use Rattle.reuse.specs.OneStep.{Reused, lowest, top, below, OneStepOf, OneStep}
 use Rattle.reuse.proofs.Apart.{twice}
-
-both : (x y : Bool) → (x && y) ≡ true → (x ≡ true) × (y ≡ true)
-both true y e = (refl, e)
-both false y e = absurd (let z : _≡_ {A = ℕ} 0 1 = cc in let q : ⊥ = omega arith in q)
 
 same-is : (x y : List ℕ) → same x y ≡ true → x ≡ y
 unfolding same

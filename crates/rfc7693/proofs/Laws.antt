@@ -11,7 +11,7 @@ use lib.Dec.{lit<}
 use lib.ListN.{length, getD, set, take, length-append, List·getD-append}
 use lib.Seq.{take-suc, take-suc-set, take-all, set-getD, getD-at}
 use lib.Bits.{xor-zero-r}
-use Rattle.rfc7693.specs.Rfc7693.{tab, IV, xorAt, counted, start, chain, F, word, block}
+use Rattle.rfc7693.specs.Rfc7693.{tab, IV, xorAt, counted, startVector, absorbed, F, word, block}
 
 -- a list that is filled from the front, one store a turn
 pub tab-none : (f : ℕ → ℕ) (a : List ℕ) → take 0 a ≡ tab 0 f
@@ -49,16 +49,16 @@ counted-small h t lt =
     let high : t / 2 ^ 64 ≡ 0 = omega arith in
     ap₂ (λ (a b : ℕ). xorAt 13 a (xorAt 12 b (h ++ IV))) high low ∙ xorAt-zero 13 (xorAt 12 t (h ++ IV))
 
-pub start-last : (h : List ℕ) (t : ℕ) → t < 2 ^ 64 → start h t true ≡ xorAt 14 0xffff_ffff_ffff_ffff (xorAt 12 t (h ++ IV))
-unfolding start
+pub start-last : (h : List ℕ) (t : ℕ) → t < 2 ^ 64 → startVector h t true ≡ xorAt 14 0xffff_ffff_ffff_ffff (xorAt 12 t (h ++ IV))
+unfolding startVector
 start-last h t lt = ap (xorAt 14 0xffff_ffff_ffff_ffff) (counted-small h t lt)
 
-pub start-more : (h : List ℕ) (t : ℕ) → t < 2 ^ 64 → start h t false ≡ xorAt 12 t (h ++ IV)
-unfolding start
+pub start-more : (h : List ℕ) (t : ℕ) → t < 2 ^ 64 → startVector h t false ≡ xorAt 12 t (h ++ IV)
+unfolding startVector
 start-more h t lt = counted-small h t lt
 
-pub chain-more : (s : List ℕ) (k : ℕ) → chain s (k + 1) ≡ F (chain s k) (block s (128 * k)) (128 * (k + 1)) false
-unfolding chain
+pub chain-more : (s : List ℕ) (k : ℕ) → absorbed s (k + 1) ≡ F (absorbed s k) (block s (128 * k)) (128 * (k + 1)) false
+unfolding absorbed
 chain-more s k = rw add-one
 
 pub tab-ext : (f g : ℕ → ℕ) (n : ℕ) → ((k : ℕ) → k < n → f k ≡ g k) → tab n f ≡ tab n g

@@ -30,7 +30,7 @@ fn begin(h: [u64; 8]) -> [u64; 16]
 
 // The vector that the rounds start from.
 fn start(h: [u64; 8], t: u64, last: bool) -> [u64; 16]
-    ensures { λ r. ⌜ r ≡ spec.start h t last ⌝ }
+    ensures { λ r. ⌜ r ≡ spec.startVector h t last ⌝ }
 {
     let mut v = begin(h);
     v[12] = v[12] ^ t;

@@ -17,7 +17,7 @@ use Rattle.rules.specs.Part.{partSize, partRoot, partAt, countNewPart, c
 use Rattle.rules.specs.Table.{maxHeight, steps, tableSize, signatureSize, header, headerBytes, headerIn, bodyIn, headerOf, tableAt}
 use Rattle.rules.specs.declared.Found.the-variants.{Good}
 use Rattle.rules.specs.declared.Grown.the-variants as grown
-use Rattle.rules.specs.declared.Answer.the-variants as answer
+use Rattle.refusal.specs.declared.Answer.the-variants as answer
 use Rattle.rules.specs.declared.Verdict.the-variants as verdict
 use Rattle.rules.specs.Calls.{Work, makeWork, moveWork, MakeOutcome, makeOutcome, KeyOutcome, keyUnder, keyOutcome, MoveOutcome}
 use Rattle.rules.specs.Calls.{notMoved, moveUnder, moveOutcome, SignOutcome, signUnder, signOutcome, VerifyOutcome, verdictOf, verifyOutcome}

@@ -8,9 +8,6 @@ use native.Mathlib.Omega.{arith}
 use lib.ListN.{getD, replicate}
 use Rattle.fields.specs.Numbers.{fourIn}
 use Rattle.refusal.specs.declared.Refusal.the-variants.{Height, SeedOrKey, Table, Length, PastEnd, TooLong}
-use Rattle.blake2b.specs.Calls.{Hashes, hashOutcome}
-use Rattle.blake2b.specs.declared.Answer as hashed
-use Rattle.blake2b.specs.declared.Answer.the-variants as hashed-as
 use Rattle.ed25519.specs.Tally.{Run, asked}
 use Rattle.tree.specs.Tree.{zeros}
 use Rattle.tree.specs.Move.{entered, movedTree, countMove, countNewAt, callsMove}
@@ -38,8 +35,8 @@ use Rattle.rules.specs.Calls.{
 }
 use Rattle.rules.specs.declared.Grown.{Grown}
 use Rattle.rules.specs.declared.Grown.the-variants as grown
-use Rattle.rules.specs.declared.Answer.{Answer}
-use Rattle.rules.specs.declared.Answer.the-variants as answer
+use Rattle.refusal.specs.declared.Answer.{Answer}
+use Rattle.refusal.specs.declared.Answer.the-variants as answer
 use Rattle.rules.specs.declared.Verdict.{Verdict}
 use Rattle.rules.specs.declared.Verdict.the-variants as verdict
 
@@ -132,8 +129,3 @@ module _ {a : Verdict} {k m x : List ℕ} where
   pub verify-6 : Verifies 2 2 (replicate 32 0) 16 [] (replicate 352 0) a k m x → a ≡ verdict.Refused PastEnd
   unfolding verifyOutcome verdictOf
   verify-6 v = v .answers
-
--- hash: 7 before 4
-pub hash-7-4 : {a : hashed.Answer} {m out : List ℕ} → Hashes (replicate 4097 0) [] a m out → a ≡ hashed-as.Refused TooLong
-unfolding hashOutcome
-hash-7-4 h = h .answers

@@ -10,8 +10,9 @@ use Rattle.blake2b.proofs.Facts.{hash-length}
 use Rattle.ed25519.specs.Ed25519.{publicKey, signature}
 use Rattle.tree.specs.Seeds.{left, right, secretOf}
 use Rattle.tree.specs.Tree.{treeAt}
-use Rattle.tree.specs.Sum.{pathOf, sumSignature}
-use Rattle.tree.specs.Knows.{leafWord, Starts, first, rest}
+use Rattle.tree.specs.Sum.{sumSignature}
+use Rattle.tree.proofs.Paths.{pathOf}
+use Rattle.tree.specs.Knows.{leafWord, Starts, headOr, tailOf}
 use Rattle.tree.proofs.Laws.{sum-is}
 use Rattle.tree.proofs.Holding.{starts-itself}
 use Rattle.rules.specs.Part.{total, outer, inner, chain, partRoot, partAt, sumsIn}
@@ -60,12 +61,12 @@ present-grows (g ∷ hs) h t =
 
 -- THE SECRETS THAT SIGN: the sum signatures at step t, by the secrets xs, top first
 unfoldable pub sumsBy : List (List ℕ) → List ℕ → ℕ → List ℕ → ℕ → List ℕ → List ℕ
-sumsBy xs s h [] t m = publicKey (first [] xs) ++ (signature (first [] xs) m ++ pathOf s h t)
+sumsBy xs s h [] t m = publicKey (headOr [] xs) ++ (signature (headOr [] xs) m ++ pathOf s h t)
 sumsBy xs s h (g ∷ hs) t m =
     let n = total g hs in
     let below = left (chain (right s) (outer n t)) in
-    (publicKey (first [] xs) ++ (signature (first [] xs) (partRoot below g hs) ++ pathOf (left s) h (outer n t)))
-    ++ sumsBy (rest xs) below g hs (inner n t) m
+    (publicKey (headOr [] xs) ++ (signature (headOr [] xs) (partRoot below g hs) ++ pathOf (left s) h (outer n t)))
+    ++ sumsBy (tailOf xs) below g hs (inner n t) m
 
 -- what the part at step t signs with are those of `signing`
 pub signing-signs : (hs : List ℕ) (s : List ℕ) (h t : ℕ) (m : List ℕ) → length s ≡ 32

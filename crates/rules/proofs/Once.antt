@@ -1,4 +1,4 @@
--- For each call: no second outcome fits its contract (the hash's is beside it), and the tally at entry fixes the one at exit; the outcome is one of those that
+-- For each call: no second outcome fits its contract, and the tally at entry fixes the one at exit; the outcome is one of those that
 -- document 01 and request 4 list for the call; and their numbers.
 use mathlib.Core.Path.{_≡_, refl, sym, _∙_}
 use mathlib.Core.List.{List, [], _∷_, map}
@@ -7,23 +7,25 @@ use Prim.Native.Nat.{ℕ}
 use lib.Dec.{ltb, leb, eqb}
 use lib.ListN.{length}
 use Rattle.fields.specs.Tests.{pick}
-use Rattle.blake2b.specs.Calls.{limit, hashOutcome}
-use Rattle.blake2b.specs.Calls as blake2b
+use Rattle.fields.specs.Lists.{Among, here, there, beforeLast}
+use Rattle.fields.proofs.Lists.{either, with-silence}
+use Rattle.blake2b.specs.Calls.{limit}
 use Rattle.refusal.specs.declared.Refusal.the-variants.{Table, Unanswered}
 use Rattle.ed25519.specs.Tally.{Run, asked}
 use Rattle.rules.specs.Part.{partVerdict}
 use Rattle.rules.specs.Table.{steps, tableSize, signatureSize, headerIn, wellFormed, headerOf}
-use Rattle.rules.specs.Answers.{grownTold, answerNumber, verdictNumber}
+use Rattle.refusal.specs.Numbers.{answerNumber}
+use Rattle.rules.specs.Answers.{grownTold, verdictNumber}
 use Rattle.rules.specs.Calls.{tooHigh, Makes, MakeOutcome, notMade, makeOutcome, makeTallied}
 use Rattle.rules.specs.Calls.{Reads, KeyOutcome, keyUnder, keyOutcome}
 use Rattle.rules.specs.Calls.{Moves, MoveOutcome, notMoved, moveUnder, moveOutcome, moveTallied}
 use Rattle.rules.specs.Calls.{Signs, SignOutcome, notSigned, signUnder, signOutcome, signTallied}
 use Rattle.rules.specs.Calls.{Verifies, verdictOf, verifyOutcome}
-use Rattle.rules.specs.Listed.{Among, here, there, beforeLast, makeListed, makeTalliedListed, keyListed, moveListed, moveTalliedListed}
-use Rattle.rules.specs.Listed.{signListed, signTalliedListed, verifyListed, hashListed}
+use Rattle.rules.specs.Listed.{makeListed, makeTalliedListed, keyListed, moveListed, moveTalliedListed}
+use Rattle.rules.specs.Listed.{signListed, signTalliedListed, verifyListed}
 use Rattle.rules.specs.declared.Found.the-variants.{Good, Refused}
 use Rattle.rules.specs.declared.Grown.{Grown}
-use Rattle.rules.specs.declared.Answer.{Answer}
+use Rattle.refusal.specs.declared.Answer.{Answer}
 use Rattle.rules.specs.declared.Verdict.{Verdict}
 
 pub make-once : (h1 h2 : ℕ) (s d : List ℕ) (t : ℕ) {a b : Grown} {s₁ s₂ d₁ d₂ : List ℕ} {t₁ t₂ : ℕ} → Makes h1 h2 s d t a s₁ d₁ t₁ → Makes h1 h2 s d t b s₂ d₂ t₂
@@ -55,32 +57,11 @@ verify-once h1 h2 k t m x p q = (
   p .keeps-signature ∙ sym (q .keeps-signature),
 )
 
--- one of the listed
-pub either : {A : Type 0} {x y : A} {xs : List A} (b : Bool) → Among x xs → Among y xs → Among (pick b x y) xs
-either true p q = p
-either false p q = q
-
 pub make-listed : (h1 h2 : ℕ) (s d : List ℕ) → Among (makeOutcome h1 h2 s d) (makeListed h1 h2 s d)
 unfolding makeOutcome
 make-listed h1 h2 s d =
     either (tooHigh h1 h2) (here refl)
     (either (eqb (length s) 32) (either (eqb (length d) (tableSize h1 h2)) (there (there (there (here refl)))) (there (there (here refl)))) (there (here refl)))
-
--- with one more among them
-still : {A : Type 0} (y : A) {x : A} (xs : List A) → Among x xs → Among x (beforeLast y xs)
-unfolding beforeLast
-still y (z ∷ []) (here e) = there (here e)
-still y (z ∷ w ∷ ws) (here e) = here e
-still y (z ∷ w ∷ ws) (there p) = there (still y (w ∷ ws) p)
-
-too : {A : Type 0} (y : A) (xs : List A) → Among y (beforeLast y xs)
-unfolding beforeLast
-too y [] = here refl
-too y (z ∷ []) = here refl
-too y (z ∷ w ∷ ws) = there (too y (w ∷ ws))
-
-pub with-silence : {A : Type 0} (y : A) {x : A} (xs : List A) (g : Bool) → Among x xs → Among (pick g x y) (beforeLast y xs)
-with-silence y xs g p = either g (still y xs p) (too y xs)
 
 pub make-tallied-listed : (h1 h2 : ℕ) (s d : List ℕ) (t : ℕ) → Among (makeTallied h1 h2 s d t) (makeTalliedListed h1 h2 s d)
 unfolding makeTallied
@@ -135,10 +116,6 @@ verify-listed h1 h2 k t m x =
     let key = either (eqb (length x) (signatureSize h1 h2)) size (there (there (here refl))) in
     either (tooHigh h1 h2) (here refl) (either (eqb (length k) 32) key (there (here refl)))
 
-pub hash-listed : (m out : List ℕ) → Among (hashOutcome m out) (hashListed m out)
-unfolding hashOutcome
-hash-listed m out = either (ltb limit (length m)) (here refl) (either (eqb (length out) 32) (there (there (here refl))) (there (here refl)))
-
 -- in document 01's numbers
 pub make-numbers : (h1 h2 : ℕ) (s d : List ℕ) → map (λ (o : MakeOutcome). grownTold (o .answer) .number) (makeTalliedListed h1 h2 s d) ≡ 1 ∷ 2 ∷ 4 ∷ 9 ∷ 0 ∷ []
 unfolding beforeLast
@@ -157,6 +134,3 @@ sign-numbers d m out = refl
 
 pub verify-numbers : map verdictNumber verifyListed ≡ 1 ∷ 2 ∷ 4 ∷ 7 ∷ 6 ∷ 100 ∷ 0 ∷ []
 verify-numbers = refl
-
-pub hash-numbers : (m out : List ℕ) → map (λ (o : blake2b.Outcome). blake2b.answerNumber (o .answer)) (hashListed m out) ≡ 7 ∷ 4 ∷ 0 ∷ []
-hash-numbers m out = refl

@@ -1,5 +1,5 @@
 -- A count that make or move answers is not 0: whoever reads it sees from the count alone that the call was done.
-use mathlib.Core.Path.{_≡_, refl}
+use mathlib.Core.Path.{_≡_, sym, refl}
 use mathlib.Core.Logic.{_⊎_, inl, inr}
 use mathlib.Core.List.{List, [], _∷_}
 use mathlib.Core.Bool.{Bool, true, false}
@@ -14,7 +14,7 @@ use Rattle.fields.specs.Tests.{pick}
 use Rattle.refusal.specs.declared.Refusal.{Refusal}
 use Rattle.refusal.specs.declared.Refusal.the-variants.{Height, SeedOrKey, Length, NotLater, PastEnd}
 use Rattle.tree.specs.Move.{countMove, countNewAt}
-use Rattle.tree.proofs.Levels.{side}
+use Rattle.fields.proofs.Cases.{side}
 use Rattle.rules.specs.Part.{total, outer, inner, countNewPart, countPart}
 use Rattle.rules.specs.Table.{steps, tableSize, bodyIn, headerOf}
 use Rattle.rules.specs.Calls.{tooHigh, makeWork, made, notMade, makeOutcome, moveWork, moved, notMoved, moveUnder, moveOutcome}
@@ -22,6 +22,7 @@ use Rattle.rules.specs.declared.Found.{Found}
 use Rattle.rules.specs.declared.Found.the-variants as found
 use Rattle.rules.specs.declared.Grown.the-variants.{Done, Refused}
 use Rattle.rules.proofs.Steps.{inner-lt, inner-less}
+use Rattle.rules.proofs.Untouched.{grown-not}
 
 -- one tree, and a new part: its top tree alone has a leaf
 count-pos : (h a b : ℕ) → a < b → b < 2 ^ h → 0 < countMove h a b
@@ -53,9 +54,6 @@ part-pos (g ∷ hs) h a b l u = go (part-pos hs) (eqb (outer (total g hs) a) (ou
         rw p (ih g (inner n a) (inner n b) (inner-less n (2 ^ n) refl a b l (eqb-true (outer n a) (outer n b) p)) (inner-lt n (2 ^ n) refl b))
     go ih false p = rw p (let k = new-pos hs g (inner (total g hs) b) in omega arith)
 
-not-done : {why : Refusal} {n : ℕ} → Refused why ≡ Done n → ⊥
-not-done e = let z : _≡_ {A = ℕ} 0 1 = cc in omega arith
-
 -- as the calls tell them
 pub make-positive : (h1 h2 : ℕ) (s d : List ℕ) {n : ℕ} → makeOutcome h1 h2 s d .answer ≡ Done n → 0 < n
 unfolding makeOutcome makeWork
@@ -63,9 +61,9 @@ make-positive h1 h2 s d {n} = go (tooHigh h1 h2) (eqb (length s) 32) (eqb (lengt
   where
     go : (p q r : Bool) → (pick p (notMade Height s d) (pick q (pick r (made h1 h2 (makeWork h1 h2 s)) (notMade Length s d)) (notMade SeedOrKey s d))) .answer ≡ Done n
         → 0 < n
-    go true q r t = absurd (not-done t)
-    go false false r t = absurd (not-done t)
-    go false true false t = absurd (not-done t)
+    go true q r t = absurd (grown-not (sym t))
+    go false false r t = absurd (grown-not (sym t))
+    go false true false t = absurd (grown-not (sym t))
     go false true true t =
         let k : countNewPart h1 (h2 ∷ []) 0 ≡ n = cc in
         let p = new-pos (h2 ∷ []) h1 0 in
@@ -76,13 +74,13 @@ unfolding moveOutcome moveUnder moveWork
 move-positive d b {n} = go (headerOf d)
   where
     go : (f : Found) → moveUnder f d b .answer ≡ Done n → 0 < n
-    go (found.Refused why) t = absurd (not-done t)
+    go (found.Refused why) t = absurd (grown-not (sym t))
     go (found.Good x) t = under (leb (steps (x .h1) (x .h2)) b) (leb b (x .step)) refl refl t
       where
         under : (p q : Bool) → leb (steps (x .h1) (x .h2)) b ≡ p → leb b (x .step) ≡ q
             → (pick p (notMoved PastEnd d) (pick q (notMoved NotLater d) (moved x b (moveWork x (bodyIn d) b)))) .answer ≡ Done n → 0 < n
-        under true q e f t = absurd (not-done t)
-        under false true e f t = absurd (not-done t)
+        under true q e f t = absurd (grown-not (sym t))
+        under false true e f t = absurd (grown-not (sym t))
         under false false e f t =
             let k : countPart (x .h1) (x .h2 ∷ []) (x .step) b ≡ n = cc in
             let p = part-pos (x .h2 ∷ []) (x .h1) (x .step) b (leb-false b (x .step) f) (leb-false (steps (x .h1) (x .h2)) b e) in

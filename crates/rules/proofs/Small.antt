@@ -20,9 +20,7 @@ use Rattle.rules.specs.declared.Found.the-variants as found
 use Rattle.rules.specs.declared.Grown.the-variants.{Done, Refused}
 use Rattle.rules.proofs.Headers.{not-high, whole}
 use Rattle.rules.proofs.Bounds.{count-across}
-
-not-done : {why : Refusal} {n : ℕ} → Refused why ≡ Done n → ⊥
-not-done e = let z : _≡_ {A = ℕ} 0 1 = cc in omega arith
+use Rattle.rules.proofs.Untouched.{grown-not}
 
 pub make-small : (h1 h2 : ℕ) (s d : List ℕ) {n : ℕ} → makeOutcome h1 h2 s d .answer ≡ Done n → n < 0x1_0000_0000
 unfolding makeOutcome makeWork countNewPart
@@ -31,9 +29,9 @@ make-small h1 h2 s d {n} = go (tooHigh h1 h2) (eqb (length s) 32) (eqb (length d
     go : (p q r : Bool) → p ≡ tooHigh h1 h2
         → (pick p (notMade Height s d) (pick q (pick r (made h1 h2 (makeWork h1 h2 s)) (notMade Length s d)) (notMade SeedOrKey s d))) .answer ≡ Done n
         → n < 0x1_0000_0000
-    go true q r e t = absurd (not-done t)
-    go false false r e t = absurd (not-done t)
-    go false true false e t = absurd (not-done t)
+    go true q r e t = absurd (grown-not (sym t))
+    go false false r e t = absurd (grown-not (sym t))
+    go false true false e t = absurd (grown-not (sym t))
     go false true true e t =
         let k : countNewAt h1 (outer h2 0) + countNewAt h2 (inner h2 0) ≡ n = cc in
         let l = not-high h1 h2 (sym e) in
@@ -48,12 +46,12 @@ unfolding moveOutcome moveUnder moveWork
 move-small d b {n} = go (headerOf d) refl
   where
     go : (f : Found) → headerOf d ≡ f → moveUnder f d b .answer ≡ Done n → n < 0x1_0000_0000
-    go (found.Refused why) e t = absurd (not-done t)
+    go (found.Refused why) e t = absurd (grown-not (sym t))
     go (found.Good x) e t = under (leb (steps (x .h1) (x .h2)) b) (leb b (x .step)) t
       where
         under : (p q : Bool) → (pick p (notMoved PastEnd d) (pick q (notMoved NotLater d) (moved x b (moveWork x (bodyIn d) b)))) .answer ≡ Done n → n < 0x1_0000_0000
-        under true q t = absurd (not-done t)
-        under false true t = absurd (not-done t)
+        under true q t = absurd (grown-not (sym t))
+        under false true t = absurd (grown-not (sym t))
         under false false t =
             let k : countPart (x .h1) (x .h2 ∷ []) (x .step) b ≡ n = cc in
             let w = whole d e in

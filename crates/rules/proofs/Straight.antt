@@ -10,7 +10,7 @@ use lib.Pow.{pow-pos}
 use Rattle.fields.specs.Tests.{pick}
 use Rattle.refusal.specs.declared.Refusal.the-variants.{Unanswered}
 use Rattle.ed25519.specs.Tally.{Run, asked}
-use Rattle.tree.proofs.Levels.{side}
+use Rattle.fields.proofs.Cases.{side}
 use Rattle.rules.specs.Table.{maxHeight, steps, tableAt}
 use Rattle.rules.specs.Calls.{MoveOutcome, notMoved, moveOutcome, moveTallied}
 use Rattle.rules.specs.Runs.{Last, none, Asked, accepted, moveLeaves, moveTells, movedBy, lastAccepted, straightTo, stepOf}

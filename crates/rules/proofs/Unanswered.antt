@@ -8,25 +8,27 @@ use Prim.Native.Nat.{ℕ, _+_, _^_, _≤_, _<_}
 use native.Mathlib.Omega.{arith}
 use lib.Dec.{eqb}
 use Rattle.fields.specs.Tests.{pick}
+use Rattle.fields.proofs.Lists.{of-listed}
 use Rattle.refusal.specs.declared.Refusal.{Refusal}
 use Rattle.refusal.specs.declared.Refusal.the-variants.{Unanswered}
 use Rattle.ed25519.specs.Tally.{Run, asked, passed, Exactly}
 use Rattle.ed25519.proofs.Passed.{nine, passes}
 use Rattle.rules.specs.Part.{outer, countNewPart, countPart, callsNewPart, callsPart, rootsPart}
 use Rattle.rules.specs.Table.{headerIn}
-use Rattle.rules.specs.Answers.{grownTold, answerNumber}
+use Rattle.refusal.specs.Numbers.{answerNumber}
+use Rattle.rules.specs.Answers.{grownTold}
 use Rattle.rules.specs.Calls.{makeWork, Makes, MakeOutcome, notMade, makeOutcome, makeTallied}
 use Rattle.rules.specs.Calls.{moveWork, Moves, MoveOutcome, notMoved, moveOutcome, moveTallied}
 use Rattle.rules.specs.Calls.{Signs, SignOutcome, notSigned, signOutcome, signTallied}
 use Rattle.rules.specs.Listed.{makeListed, moveListed, signListed}
 use Rattle.rules.specs.declared.Grown.{Grown}
 use Rattle.rules.specs.declared.Grown.the-variants as grown
-use Rattle.rules.specs.declared.Answer.{Answer}
-use Rattle.rules.specs.declared.Answer.the-variants as answer
+use Rattle.refusal.specs.declared.Answer.{Answer}
+use Rattle.refusal.specs.declared.Answer.the-variants as answer
 use Rattle.rules.proofs.Bounds.{new-calls, part-calls}
 use Rattle.rules.proofs.Once.{make-listed, move-listed, sign-listed}
 use Rattle.rules.proofs.Small.{make-small, move-small}
-use Rattle.rules.proofs.Untouched.{of-listed, grown-not, answer-not}
+use Rattle.rules.proofs.Untouched.{grown-not, answer-not}
 
 -- what is said of a chosen outcome is chosen
 pub says-pick : {O A : Type 0} (f : O → A) (x y : O) (g : Bool) → f (pick g x y) ≡ pick g (f x) (f y)

@@ -1,21 +1,17 @@
 -- A refusal leaves everything lent as it was, but for the tally that 9 may change: said of the outcomes themselves, so that it does not rest on how the listed
 -- refusals are written.
-use mathlib.Core.Path.{_≡_, refl, sym, subst}
-use mathlib.Core.List.{List, [], _∷_}
+use mathlib.Core.Path.{_≡_, refl}
+use mathlib.Core.List.{List}
 use Prim.Native.Nat.{ℕ}
 use native.Mathlib.Omega.{arith}
 use Rattle.refusal.specs.declared.Refusal.{Refusal}
-use Rattle.tree.specs.Knows.{Each}
+use Rattle.fields.specs.Lists.{beforeLast}
+use Rattle.fields.proofs.Lists.{of-listed}
 use Rattle.rules.specs.Calls.{MakeOutcome, makeTallied, KeyOutcome, keyOutcome, MoveOutcome, moveTallied, SignOutcome, signTallied, VerifyOutcome, verifyOutcome}
-use Rattle.rules.specs.Listed.{Among, here, there, beforeLast, makeTalliedListed, keyListed, moveTalliedListed, signTalliedListed}
+use Rattle.rules.specs.Listed.{makeTalliedListed, keyListed, moveTalliedListed, signTalliedListed}
 use Rattle.rules.specs.declared.Grown.the-variants as grown
-use Rattle.rules.specs.declared.Answer.the-variants as answer
+use Rattle.refusal.specs.declared.Answer.the-variants as answer
 use Rattle.rules.proofs.Once.{make-tallied-listed, key-listed, move-tallied-listed, sign-tallied-listed}
-
--- what holds of all that are listed holds of one of them
-pub of-listed : {A : Type 0} (P : A → Type 0) (xs : List A) {x : A} → Each P xs → Among x xs → P x
-of-listed P (y ∷ ys) p (here e) = subst P (sym e) (p .0)
-of-listed P (y ∷ ys) p (there q) = of-listed P ys (p .1) q
 
 pub grown-not : {n : ℕ} {why : Refusal} → grown.Done n ≡ grown.Refused why → ⊥
 grown-not e = let z : _≡_ {A = ℕ} 0 1 = cc in omega arith

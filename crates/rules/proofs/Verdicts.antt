@@ -2,11 +2,11 @@
 -- paths fit, Ed25519 decides, on both signatures. A definition that always accepts, always rejects or looks at one of the four alone breaks these.
 use mathlib.Core.Path.{_≡_, refl}
 use mathlib.Core.List.{List, [], _∷_, _++_}
-use mathlib.Core.Bool.{Bool, true, false, _&&_}
+use mathlib.Core.Bool.{Bool, true, false, _&&_, and-false}
 use Prim.Native.Nat.{ℕ}
 use lib.ListN.{replicate}
 use Rattle.fields.specs.Tests.{pick, same}
-use Rattle.rfc7693.specs.Rfc7693.{rotr, word, byte, IV, SIGMA, add3, add2, turn, G, MIXINGS, mixing, mixings, round, rounds, xorAt, counted, start, folded, F, tab, block, first, chain, before, digest, hash}
+use Rattle.rfc7693.specs.Rfc7693.{rotr, word, byte, IV, SIGMA, add3, add2, turn, G, MIXINGS, mixing, mixings, round, rounds, xorAt, counted, startVector, folded, F, tab, block, firstState, absorbed, fullBlocks, digest, hash}
 use Rattle.ed25519.specs.Ed25519.{accepts}
 use Rattle.tree.specs.Sum.{climb, pathFits, leafAccepts, sumVerdict}
 use Rattle.rules.specs.Part.{sumsVerdict, partVerdict}
@@ -24,26 +24,21 @@ unfoldable pub onLeft : List ℕ
 onLeft = 0xdc ∷ 0x34 ∷ 0x01 ∷ 0xeb ∷ 0x6e ∷ 0xfc ∷ 0xe5 ∷ 0xef ∷ 0xe3 ∷ 0xdb ∷ 0x67 ∷ 0x2d ∷ 0x2a ∷ 0x76 ∷ 0x71 ∷ 0xbe ∷ 0x47 ∷ 0x98 ∷ 0xee ∷ 0x87 ∷ 0x34 ∷ 0x1f ∷ 0x71 ∷ 0x46 ∷ 0x01 ∷ 0xab ∷ 0x57 ∷ 0xaf ∷ 0xbd ∷ 0xca ∷ 0x35 ∷ 0x59 ∷ []
 
 leaf-hash : hash (replicate 32 0) ≡ leafHash
-unfolding leafHash rotr word byte IV SIGMA add3 add2 turn G MIXINGS mixing mixings round rounds xorAt counted start folded F tab block first chain before digest hash
+unfolding leafHash rotr word byte IV SIGMA add3 add2 turn G MIXINGS mixing mixings round rounds xorAt counted startVector folded F tab block firstState absorbed fullBlocks digest hash
 leaf-hash = refl
 
 on-right : hash (replicate 32 0 ++ leafHash) ≡ onRight
-unfolding leafHash onRight rotr word byte IV SIGMA add3 add2 turn G MIXINGS mixing mixings round rounds xorAt counted start folded F tab block first chain before digest hash
+unfolding leafHash onRight rotr word byte IV SIGMA add3 add2 turn G MIXINGS mixing mixings round rounds xorAt counted startVector folded F tab block firstState absorbed fullBlocks digest hash
 on-right = refl
 
 on-left : hash (leafHash ++ replicate 32 0) ≡ onLeft
-unfolding leafHash onLeft rotr word byte IV SIGMA add3 add2 turn G MIXINGS mixing mixings round rounds xorAt counted start folded F tab block first chain before digest hash
+unfolding leafHash onLeft rotr word byte IV SIGMA add3 add2 turn G MIXINGS mixing mixings round rounds xorAt counted startVector folded F tab block firstState absorbed fullBlocks digest hash
 on-left = refl
 
 -- zeros alone: the hash of zeros is not zeros
 pub zeros-rejected : verifyOutcome 0 0 (replicate 32 0) 0 [] (replicate 224 0) .answer ≡ Rejected
 unfolding verifyOutcome verdictOf partVerdict sumsVerdict sumVerdict pathFits climb same leafHash
 zeros-rejected = rw leaf-hash
-
--- Heights 1 and 0, every key, signature and witness zeros. At step 1 the parent's path leads to `onRight`, at step 0 to `onLeft`; the child's to `leafHash`.
-both-no : (b : Bool) → (b && false) ≡ false
-both-no true = refl
-both-no false = refl
 
 -- the parent's path does not fit
 pub parent-rejected : verifyOutcome 1 0 onRight 0 [] (replicate 224 0 ++ leafHash) .answer ≡ Rejected
@@ -53,7 +48,7 @@ parent-rejected = rw (leaf-hash, on-left)
 -- the child's does not
 pub child-rejected : verifyOutcome 1 0 onRight 1 [] (replicate 256 0) .answer ≡ Rejected
 unfolding verifyOutcome verdictOf partVerdict sumsVerdict sumVerdict pathFits climb same leafHash onRight
-child-rejected = rw (leaf-hash, on-right, both-no)
+child-rejected = rw (leaf-hash, on-right, and-false)
 
 -- both fit
 pub decided : verifyOutcome 1 0 onRight 1 [] (replicate 224 0 ++ leafHash) .answer ≡

@@ -20,8 +20,8 @@ use Rattle.rules.specs.declared.Found.{Found}
 use Rattle.rules.specs.declared.Found.the-variants as found
 use Rattle.rules.specs.declared.Grown.{Grown}
 use Rattle.rules.specs.declared.Grown.the-variants as grown
-use Rattle.rules.specs.declared.Answer.{Answer}
-use Rattle.rules.specs.declared.Answer.the-variants as answer
+use Rattle.refusal.specs.declared.Answer.{Answer}
+use Rattle.refusal.specs.declared.Answer.the-variants as answer
 use Rattle.rules.specs.declared.Verdict.{Verdict}
 use Rattle.rules.specs.declared.Verdict.the-variants as verdict
 
@@ -166,8 +166,8 @@ pub record VerifyOutcome : Type 0 where
   pub message : List ℕ
   pub signature : List ℕ
 
-abbrev pub judged : Verdict → List ℕ → List ℕ → List ℕ → VerifyOutcome
-judged a k m x = record { answer = a; key = k; message = m; signature = x }
+abbrev pub verified : Verdict → List ℕ → List ℕ → List ℕ → VerifyOutcome
+verified a k m x = record { answer = a; key = k; message = m; signature = x }
 
 unfoldable pub verdictOf : ℕ → ℕ → List ℕ → ℕ → List ℕ → List ℕ → Verdict
 verdictOf h1 h2 k t m x =
@@ -181,7 +181,7 @@ verdictOf h1 h2 k t m x =
     (verdict.Refused SeedOrKey))
 
 unfoldable pub verifyOutcome : ℕ → ℕ → List ℕ → ℕ → List ℕ → List ℕ → VerifyOutcome
-verifyOutcome h1 h2 k t m x = judged (verdictOf h1 h2 k t m x) k m x
+verifyOutcome h1 h2 k t m x = verified (verdictOf h1 h2 k t m x) k m x
 
 pub record Verifies (h1 h2 : ℕ) (k : List ℕ) (t : ℕ) (m x : List ℕ) (a : Verdict) (k′ m′ x′ : List ℕ) : Type 0 where
   pub answers : a ≡ verifyOutcome h1 h2 k t m x .answer

@@ -12,7 +12,7 @@ use Rattle.rules.specs.Table.{maxHeight, steps, tableSize, signatureSize
 use Rattle.rules.specs.Calls.{MakeOutcome, makeOutcome, KeyOutcome, keyOutcome, MoveOutcome}
 use Rattle.rules.specs.Calls.{moveOutcome, SignOutcome, signOutcome, VerifyOutcome, verifyOutcome}
 use Rattle.rules.specs.declared.Grown.the-variants as grown
-use Rattle.rules.specs.declared.Answer.the-variants as answer
+use Rattle.refusal.specs.declared.Answer.the-variants as answer
 use Rattle.rules.specs.declared.Verdict.the-variants as verdict
 use Rattle.rules.specs.Runs.{Last, Asked, movedBy, lastAccepted, straightTo, stepOf}
 use Rattle.rules.specs.Knows.{knownTable, handedAt, Knowing}

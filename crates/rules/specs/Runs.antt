@@ -1,20 +1,10 @@
--- A list of calls of any kind, each on the bytes that the one before it left; and a list of asked moves.
-use mathlib.Core.List.{List, [], _∷_}
+-- Demand 3, "moved about, some moves refused": a list of asked moves, and the last accepted of them.
+use mathlib.Core.List.{List}
 use Prim.Native.Nat.{ℕ}
+use Rattle.fields.specs.Runs.{after, ends}
 use Rattle.rules.specs.Calls.{MoveOutcome, moveOutcome, moveTallied}
 use Rattle.rules.specs.declared.Grown.{Grown}
 use Rattle.rules.specs.declared.Grown.the-variants as grown
-
--- the bytes in the end, where `leaves d o` is what the call o leaves of d
-unfoldable pub after : {Call : Type 0} → (List ℕ → Call → List ℕ) → List ℕ → List Call → List ℕ
-after leaves d [] = d
-after leaves d (o ∷ os) = after leaves (leaves d o) os
-
--- a state in the end, where `next x d o` is what the call o on d makes of the state x
-unfoldable pub ends : {Call State : Type 0} → (List ℕ → Call → List ℕ) → (State → List ℕ → Call → State)
-    → State → List ℕ → List Call → State
-ends leaves next x d [] = x
-ends leaves next x d (o ∷ os) = ends leaves next (next x d o) (leaves d o) os
 
 -- ASKED MOVES, to any steps. The last accepted step, if one was accepted:
 pub data Last : Type 0 where

@@ -19,12 +19,6 @@ pub enum Grown {
     Refused(Refusal),
 }
 
-// What reading the verification key and signing answer.
-pub enum Answer {
-    Done,
-    Refused(Refusal),
-}
-
 pub enum Verdict {
     Accepted,
     Rejected,

@@ -2,7 +2,6 @@
 // A request is a byte of height, the step in 4 bytes, lowest first, the 32-byte root, the message's length in 2, lowest first, the message, and the sum signature.
 // A verdict is one byte, 1 for accepted and 0 for not.
 ghost use mathlib.Core.Path.{_≡_};
-ghost use Prim.Native.Nat.{_≤_};
 ghost use lib.ListN.{length};
 use libc::STDIN_FILENO;
 use libc::STDOUT_FILENO;
@@ -31,14 +30,8 @@ fn serve(head: &mut [u8], message: &mut [u8], signature: &mut [u8])
 fn serve_one(head: &mut [u8], message: &mut [u8], signature: &mut [u8]) -> bool
     requires { ⌜ (length (now head) ≡ 39) × (length (now message) ≡ 4096) × (length (now signature) ≡ 4096) ⌝ }
 {
-    if io::read_full(STDIN_FILENO, head) < 39 {
-        return false;
-    }
-    let size = wide(head[37]) + 256 * wide(head[38]);
+    let size = cases::read_request(head, message);
     if size > 4096 {
-        return false;
-    }
-    if io::read_full(STDIN_FILENO, &mut message[0..size]) < size {
         return false;
     }
     judge(head, &message[0..size], signature)
@@ -48,11 +41,11 @@ fn serve_one(head: &mut [u8], message: &mut [u8], signature: &mut [u8]) -> bool
 fn judge(head: &[u8], message: &[u8], signature: &mut [u8]) -> bool
     requires { ⌜ (length (now head) ≡ 39) × (length (now signature) ≡ 4096) ⌝ }
 {
-    let h = wide(head[0]);
+    let h = fields::wide(head[0]);
     if h > 12 {
         return false;
     }
-    let t = step(head);
+    let t = fields::get_four(head, 1);
     if t >= tree::leaves(h) {
         return false;
     }
@@ -63,16 +56,4 @@ fn judge(head: &[u8], message: &[u8], signature: &mut [u8]) -> bool
     let root = fields::get32(head, 5);
     let verdict = [tree::sum_verify(root, h, t, message, &signature[0..size]) as u8];
     io::write_all(STDOUT_FILENO, &verdict)
-}
-
-fn step(head: &[u8]) -> usize
-    requires { ⌜ length (now head) ≡ 39 ⌝ }
-{
-    wide(head[1]) + 256 * (wide(head[2]) + 256 * (wide(head[3]) + 256 * wide(head[4])))
-}
-
-fn wide(b: u8) -> usize
-    ensures { λ r. ⌜ r ≤ 255 ⌝ }
-{
-    b as usize
 }

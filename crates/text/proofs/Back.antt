@@ -9,11 +9,11 @@ use lib.Dec.{leb}
 use lib.ListN.{length, getD, take}
 use lib.Seq.{take-suc, take-all, length-take-le, getD-take}
 use borrow.Author.Tests.{leb-true, eq-eqb, eqb-true}
+use Rattle.fields.proofs.Cases.{both, side}
 use Rattle.text.specs.Numerals.{every, isDigit, valueFrom, digitsUpTo, noLeadingZero, numberIn}
 use Rattle.text.specs.Digits.{decimal, padded}
 use Rattle.text.specs.declared.Number.the-variants.{Value}
-use Rattle.text.proofs.Cuts.{side}
-use Rattle.text.proofs.Reading.{both, picked, low-within}
+use Rattle.text.proofs.Reading.{picked, low-within}
 use Rattle.text.proofs.Writing.{decimal-small, decimal-more}
 
 pub every-append : (p : ℕ → Bool) (a b : List ℕ) → every p (a ++ b) ≡ true → (every p a ≡ true) × (every p b ≡ true)

@@ -7,10 +7,9 @@ use Prim.Native.Nat.{ℕ, zero, suc, _+_, _/_, _%_, _^_, _<_}
 use native.Mathlib.Nat.{pow-suc}
 use native.Mathlib.Omega.{arith}
 use borrow.Author.Tests.{lt-ltb, le-ltb, le-leb}
+use Rattle.fields.proofs.Cases.{both, side}
 use Rattle.text.specs.Numerals.{every, isDigit, valueFrom}
 use Rattle.text.specs.Digits.{ending, digits, decimal, padded}
-use Rattle.text.proofs.Cuts.{side}
-use Rattle.text.proofs.Reading.{both}
 use Rattle.text.proofs.Back.{value-snoc, digit-range}
 
 -- DIGITS ONLY

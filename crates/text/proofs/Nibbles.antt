@@ -11,7 +11,8 @@ use lib.Seq.{drop-cons, take-suc-set, append-snoc}
 use borrow.Author.Tests.{lt-ltb, ltb-true, le-leb, lt-leb, eq-eqb, ne-eqb}
 use Rattle.fields.specs.Tests.{pick}
 use Rattle.text.specs.Numerals.{every, isDigit}
-use Rattle.text.specs.Hex.{nibble, isHexDigit, bytesOf, isHexOf, Unhexes}
+use Rattle.text.specs.Hex.{nibble, isHexDigit, bytesOf, isHexOf}
+use Rattle.text.specs.Inside.{Unhexes}
 use Rattle.text.specs.declared.Decoded.{Decoded}
 use Rattle.text.specs.declared.Decoded.the-variants.{Full, Other}
 use Rattle.text.proofs.Reading.{digit-low, digit-high, digit-in, every-next, every-end}

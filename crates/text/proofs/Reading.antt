@@ -1,7 +1,7 @@
 -- Numbers read digit by digit, and each answer from what the tests say.
 use mathlib.Core.Path.{_≡_, refl}
 use mathlib.Core.List.{List, [], _∷_}
-use mathlib.Core.Bool.{Bool, true, false, _&&_}
+use mathlib.Core.Bool.{Bool, true, false, _&&_, and-false}
 use Prim.Native.Nat.{ℕ, zero, suc, _+_, _*_, _-_, _≤_, _<_}
 use native.Mathlib.Numerals.{add-one}
 use native.Mathlib.Omega.{arith}
@@ -10,6 +10,7 @@ use lib.ListN.{length, getD, drop, drop-of-length-le}
 use lib.Seq.{drop-cons}
 use borrow.Author.Tests.{le-leb, lt-leb, leb-true}
 use Rattle.fields.specs.Tests.{pick}
+use Rattle.fields.proofs.Cases.{both}
 use Rattle.text.specs.Numerals.{every, isDigit, valueFrom, digitsUpTo, noLeadingZero, atLeast, numberIn}
 use Rattle.text.specs.declared.Number.{Number}
 use Rattle.text.specs.declared.Number.the-variants.{Value, Bad}
@@ -44,11 +45,6 @@ module _ (p : ℕ → Bool) (s : List ℕ) (i : ℕ) where
   unfolding every
   every-end h = rw (drop-of-length-le s {i = i} h)
 
--- both where the two hold together
-pub both : (a b : Bool) → (a && b) ≡ true → (a ≡ true) × (b ≡ true)
-both true b e = (refl, e)
-both false b e = (e, absurd (let z : _≡_ {A = ℕ} 0 1 = cc in omega arith))
-
 pub every-at : (p : ℕ → Bool) (s : List ℕ) (i : ℕ) → every p s ≡ true → i < length s → p (getD s i 0) ≡ true
 unfolding every
 every-at p [] i e h = absurd (omega arith)
@@ -69,10 +65,6 @@ pub value-le : (v : ℕ) (s : List ℕ) → v ≤ valueFrom v s
 unfolding valueFrom
 value-le v [] = omega arith
 value-le v (x ∷ xs) = omega (arith, value-le (v * 10 + (x - 48)) xs)
-
-pub and-false : (b : Bool) → (b && false) ≡ false
-and-false true = refl
-and-false false = refl
 
 module _ (high : ℕ) (s : List ℕ) where
   pub not-digits : every isDigit s ≡ false → digitsUpTo high s ≡ Bad

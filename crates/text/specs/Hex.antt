@@ -1,5 +1,4 @@
 -- Bytes written in hex. Document 01, "The top-up journal": "Hex is lower case, full length".
-use mathlib.Core.Path.{_≡_}
 use mathlib.Core.List.{List, [], _∷_}
 use mathlib.Core.Bool.{Bool, _&&_}
 use Prim.Native.Nat.{ℕ, _+_, _*_, _-_}
@@ -7,8 +6,6 @@ use lib.Dec.{eqb, leb, ltb}
 use lib.ListN.{length}
 use Rattle.fields.specs.Tests.{pick}
 use Rattle.text.specs.Numerals.{every, isDigit}
-use Rattle.text.specs.declared.Decoded.{Decoded}
-use Rattle.text.specs.declared.Decoded.the-variants.{Full, Other}
 
 -- what a hex digit stands for, and 16 for any other byte
 unfoldable pub nibble : ℕ → ℕ
@@ -26,8 +23,3 @@ unfoldable pub bytesOf : List ℕ → List ℕ
 bytesOf [] = []
 bytesOf (x ∷ []) = []
 bytesOf (x ∷ y ∷ r) = (nibble x * 16 + nibble y) ∷ bytesOf r
-
--- the text s was read into `out`, which is left as found where s is not the hex of as many bytes
-pub record Unhexes (s out : List ℕ) (r : Decoded) (out′ : List ℕ) : Type 0 where
-  pub answers : r ≡ pick (isHexOf (length out) s) Full Other
-  pub leaves : out′ ≡ pick (isHexOf (length out) s) (bytesOf s) out

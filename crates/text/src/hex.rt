@@ -4,7 +4,8 @@ ghost use mathlib.Core.Bool.{true, _&&_};
 ghost use lib.Dec.{ltb};
 ghost use Prim.Native.Nat.{_*_, _≤_};
 ghost use lib.ListN.{length};
-ghost use Rattle.text.specs.Hex.{nibble, isHexDigit, bytesOf, Unhexes};
+ghost use Rattle.text.specs.Hex.{nibble, isHexDigit, bytesOf};
+ghost use Rattle.text.specs.Inside.{Unhexes};
 ghost use Rattle.text.specs.Numerals.{every};
 use crate::Decoded;
 

@@ -12,7 +12,7 @@ pub use numerals::read_number;
 ghost use mathlib.Core.Path.{_≡_};
 ghost use Prim.Native.Nat.{_+_};
 ghost use lib.ListN.{drop};
-ghost use Rattle.text.specs.Fields.{before};
+ghost use Rattle.text.specs.Columns.{upTo};
 
 // What a text of digits writes.
 pub enum Number {
@@ -28,7 +28,7 @@ pub enum Decoded {
 
 // The index of the first x in s from index `from` on: where the field or line that starts there ends.
 pub fn find(s: &[u8], from: usize, x: u8) -> usize
-    ensures { λ r. ⌜ r ≡ from + before x (drop from (now (s .entry))) ⌝ }
+    ensures { λ r. ⌜ r ≡ from + upTo x (drop from (now (s .entry))) ⌝ }
     ensures { λ _. ⌜ now (s .exit) ≡ now (s .entry) ⌝ }
 {
     let mut i = from;

@@ -12,7 +12,8 @@ use Rattle.fields.specs.Tests.{pick}
 use Rattle.fields.proofs.Laws.{put-two, drop-back, tail-whole, tail-back}
 use Rattle.rfc7693.specs.Rfc7693.{hash}
 use Rattle.ed25519.specs.Ed25519.{publicKey}
-use Rattle.ed25519.specs.Tally.{Run, asked, Asks, Leaves}
+use Rattle.ed25519.specs.Tally.{Run, asked}
+use Rattle.ed25519.specs.Inside.{Asks, Leaves}
 use Rattle.ed25519.proofs.Tally.{one, then, stop}
 use Rattle.tree.specs.Seeds.{left, right, secretOf}
 use Rattle.tree.specs.Tree.{subtreeHash, level, treeSize, zeros, levelsOver, treeAt}

@@ -5,7 +5,7 @@ ghost use mathlib.Core.List.{_++_};
 ghost use Prim.Native.Nat.{_^_, _<_, _≤_};
 ghost use lib.ListN.{length, drop};
 ghost use Rattle.rfc7693.specs.Rfc7693.{hash};
-ghost use Rattle.ed25519.specs.Tally.{Asks, Leaves};
+ghost use Rattle.ed25519.specs.Inside.{Asks, Leaves};
 ghost use Rattle.tree.specs.Seeds.{left, right};
 ghost use Rattle.tree.specs.Tree.{level, treeSize, subtreeHash, treeAt};
 ghost use Rattle.tree.specs.Move.{countNewAt};

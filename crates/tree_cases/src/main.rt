@@ -6,6 +6,7 @@ ghost use lib.ListN.{length};
 ghost use Rattle.tree.specs.Tree.{treeSize};
 ghost use Rattle.tree.specs.Sum.{sumSize};
 use cases::ANSWERED;
+use cases::SEED;
 use cases::SILENT;
 use cases::digest;
 use cases::end_line;
@@ -13,41 +14,6 @@ use cases::show_field;
 use cases::show_number;
 use libc::STDOUT_FILENO;
 use tree::Grew;
-
-const SEED: [u8; 32] = [
-    1,
-    2,
-    3,
-    4,
-    5,
-    6,
-    7,
-    8,
-    9,
-    10,
-    11,
-    12,
-    13,
-    14,
-    15,
-    16,
-    17,
-    18,
-    19,
-    20,
-    21,
-    22,
-    23,
-    24,
-    25,
-    26,
-    27,
-    28,
-    29,
-    30,
-    31,
-    32,
-];
 
 // Room for a tree of height 12. The contract gives its length alone, so that no goal spells the bytes out.
 fn room() -> [u8; 1216]

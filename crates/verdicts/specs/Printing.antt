@@ -3,7 +3,7 @@
 use mathlib.Core.List.{List, [], _∷_, _++_}
 use Prim.Native.Nat.{ℕ}
 use Rattle.text.specs.Digits.{decimal}
-use Rattle.verdicts.specs.Judging.{after}
+use Rattle.verdicts.specs.Judging.{booksAfter}
 use Rattle.verdicts.specs.declared.Books.{Books}
 use Rattle.verdicts.specs.declared.Judged.{Judged}
 use Rattle.verdicts.specs.declared.Judged.the-variants.{Malformed, StepBelow, OtherSerial, NotAccepted, Good}
@@ -29,4 +29,4 @@ wrongLine = 49 ∷ 9 ∷ 72 ∷ 10 ∷ []
 -- judged lines, and then the total
 unfoldable pub printed : Books → List Judged → List ℕ
 printed b [] = totalLine b
-printed b (j ∷ js) = verdictLine (b .number) j ++ printed (after b j) js
+printed b (j ∷ js) = verdictLine (b .number) j ++ printed (booksAfter b j) js

@@ -1,16 +1,17 @@
 // The case of a line, and what it leaves to the next.
 ghost use mathlib.Core.Path.{_≡_};
 ghost use lib.ListN.{length};
-ghost use Rattle.text.specs.Fields.{fields};
+ghost use Rattle.text.specs.Columns.{columns};
 ghost use Rattle.rules.specs.Table.{signatureSize};
-ghost use Rattle.records.specs.FirstLine.{Fits};
+ghost use Rattle.records.specs.Inside.{LowHeights};
 ghost use Rattle.records.specs.Records.{recordIn, InRange};
-ghost use Rattle.verdicts.specs.Judging.{caseOf, passed, added, after, Sound, Adds};
+ghost use Rattle.verdicts.specs.Judging.{caseOf, nextLine, added, booksAfter};
+ghost use Rattle.verdicts.specs.Inside.{Sound, Adds};
 use crate::Books;
 use crate::Judged;
 use crate::signing::is_accepted;
 use records::Entry;
-use records::Header;
+use records::FirstLine;
 use records::Record;
 use records::read_record;
 
@@ -21,9 +22,9 @@ fn signature_room() -> [u8; 992]
     [0; 992]
 }
 
-fn judge_in(header: Header, books: Books, line: &[u8], signature: &mut [u8]) -> Judged
-    requires { ⌜ Fits header × Sound books × (length (now signature) ≡ signatureSize (header .h1) (header .h2)) ⌝ }
-    ensures { λ r. ⌜ r ≡ caseOf header books (recordIn header (fields (now (line .entry)))) ⌝ }
+fn judge_in(header: FirstLine, books: Books, line: &[u8], signature: &mut [u8]) -> Judged
+    requires { ⌜ LowHeights header × Sound books × (length (now signature) ≡ signatureSize (header .h1) (header .h2)) ⌝ }
+    ensures { λ r. ⌜ r ≡ caseOf header books (recordIn header (columns (now (line .entry)))) ⌝ }
 {
     let entry = read_record(header, line, signature);
     let Entry::WellFormed(r) = entry else {
@@ -44,9 +45,9 @@ fn judge_in(header: Header, books: Books, line: &[u8], signature: &mut [u8]) -> 
 }
 
 // The case of a line below this header, after lines that left these books.
-pub fn judge(header: Header, books: Books, line: &[u8]) -> Judged
-    requires { ⌜ Fits header × Sound books ⌝ }
-    ensures { λ r. ⌜ r ≡ caseOf header books (recordIn header (fields (now (line .entry)))) ⌝ }
+pub fn judge(header: FirstLine, books: Books, line: &[u8]) -> Judged
+    requires { ⌜ LowHeights header × Sound books ⌝ }
+    ensures { λ r. ⌜ r ≡ caseOf header books (recordIn header (columns (now (line .entry)))) ⌝ }
     ensures { λ _. ⌜ now (line .exit) ≡ now (line .entry) ⌝ }
 {
     let mut room = signature_room();
@@ -56,7 +57,7 @@ pub fn judge(header: Header, books: Books, line: &[u8]) -> Judged
 
 fn pass(books: Books) -> Books
     requires { ⌜ Sound books ⌝ }
-    ensures { λ r. ⌜ r ≡ passed books ⌝ }
+    ensures { λ r. ⌜ r ≡ nextLine books ⌝ }
 {
     Books {
         number: books.number + 1,
@@ -81,9 +82,9 @@ fn add(books: Books, r: Record) -> Books
 }
 
 // The books after a judged line.
-pub fn after(books: Books, judged: Judged) -> Books
+pub fn books_after(books: Books, judged: Judged) -> Books
     requires { ⌜ Sound books × Adds judged ⌝ }
-    ensures { λ r. ⌜ r ≡ after books judged ⌝ }
+    ensures { λ r. ⌜ r ≡ booksAfter books judged ⌝ }
 {
     match judged {
         Judged::Malformed => pass(books),

@@ -3,7 +3,7 @@ mod judging;
 mod printing;
 mod signing;
 
-pub use judging::after;
+pub use judging::books_after;
 pub use judging::judge;
 pub use printing::letter;
 pub use printing::put_line;

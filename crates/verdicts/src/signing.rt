@@ -4,10 +4,10 @@ ghost use Prim.Native.Nat.{_+_, _≤_};
 ghost use lib.ListN.{length};
 ghost use Rattle.text.specs.Digits.{Puts};
 ghost use Rattle.records.specs.Records.{gap, message};
-ghost use Rattle.verdicts.specs.Judging.{accepts};
+ghost use Rattle.verdicts.specs.Judging.{signatureGood};
 use key::Verdict;
 use records::Edition;
-use records::Header;
+use records::FirstLine;
 use records::Record;
 
 // What stands between card, serial and amount.
@@ -41,8 +41,8 @@ fn message_room() -> [u8; 58]
 }
 
 // Whether the record's signature is accepted under the header.
-pub fn is_accepted(header: Header, r: Record, signature: &[u8]) -> bool
-    ensures { λ yes. ⌜ yes ≡ accepts header r (now (signature .entry)) ⌝ }
+pub fn is_accepted(header: FirstLine, r: Record, signature: &[u8]) -> bool
+    ensures { λ yes. ⌜ yes ≡ signatureGood header r (now (signature .entry)) ⌝ }
     ensures { λ _. ⌜ now (signature .exit) ≡ now (signature .entry) ⌝ }
 {
     let mut room = message_room();

@@ -3,7 +3,7 @@ use Prim.Native.Nat.{ℕ, _-_}
 use native.Mathlib.Omega.{arith}
 use borrow.Author.Needs.{needs}
 use lib.ListN.{take}
-use Rattle.text.specs.Fields.{before, fields}
+use Rattle.text.specs.Columns.{upTo, columns}
 use Rattle.headers.specs.InFull.{placeIn}
 use Rattle.headers.proofs.Found.{place-unended, place-ended}
 use Rattle.headers.proofs.place_of.Statement.{statement}
@@ -15,8 +15,8 @@ returns c = sym (place-unended _ (omega (arith, c .before .find .ensures .0)))
 returns-2 : tie.Need-returns-2
 returns-2 c =
     let x = c .before .before .before .before .before .args .front .now in
-    let n : c .before .before .before .find .result - 0 ≡ before 10 x = omega (arith, c .before .before .before .find .ensures .0) in
-    c .place-in .ensures ∙ ap (λ (k : ℕ). placeIn (fields (take k x))) n ∙ sym (place-ended x (omega (arith, n)))
+    let n : c .before .before .before .find .result - 0 ≡ upTo 10 x = omega (arith, c .before .before .before .find .ensures .0) in
+    c .place-in .ensures ∙ ap (λ (k : ℕ). placeIn (columns (take k x))) n ∙ sym (place-ended x (omega (arith, n)))
 
 pub place-of-spec : {M : Type 1} → statement M
 place-of-spec =

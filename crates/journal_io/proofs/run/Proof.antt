@@ -5,7 +5,7 @@ use native.Mathlib.Omega.{arith}
 use borrow.Author.Needs.{needs}
 use lib.ListN.{length, take, length-take}
 use Rattle.text.proofs.Writing.{puts-within}
-use Rattle.ledger.specs.Feeding.{Ready}
+use Rattle.ledger.specs.Inside.{Ready}
 use Rattle.ledger.proofs.Law.{fresh-ready}
 use Rattle.journal_io.proofs.run.Statement.{statement}
 use Rattle.journal_io.proofs.run.Tie as tie

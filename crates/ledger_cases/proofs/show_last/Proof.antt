@@ -1,8 +1,6 @@
 use native.Mathlib.Omega.{arith}
 use borrow.Author.Needs.{needs}
 use Rattle.text.proofs.Writing.{puts-within}
-use Rattle.ledger.specs.Feeding.{owed, Ready}
-use Rattle.ledger.proofs.Pieces.{owed-le}
 use Rattle.ledger.proofs.Law.{fresh-ready}
 use Rattle.ledger_cases.proofs.show_last.Statement.{statement}
 use Rattle.ledger_cases.proofs.show_last.Tie as tie

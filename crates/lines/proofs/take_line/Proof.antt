@@ -2,7 +2,7 @@ use mathlib.Core.Path.{refl, sym}
 use native.Mathlib.Omega.{arith}
 use borrow.Author.Needs.{needs}
 use lib.ListN.{drop, length-drop}
-use Rattle.text.proofs.Cuts.{before-le}
+use Rattle.text.proofs.Cuts.{upTo-le}
 use Rattle.lines.proofs.Law.{takes, found-cut, found-long, found-whole}
 use Rattle.lines.proofs.take_line.Statement.{statement}
 use Rattle.lines.proofs.take_line.Tie as tie
@@ -10,7 +10,7 @@ use Rattle.lines.proofs.take_line.Tie as tie
 part-keep-end : tie.Need-part-keep-end
 part-keep-end c =
     let a = c .before .before .before .before .args in
-    omega (arith, c .before .find .ensures .0, before-le 10 (drop (a .from) (a .piece .now)), length-drop (a .from) (a .piece .now))
+    omega (arith, c .before .find .ensures .0, upTo-le 10 (drop (a .from) (a .piece .now)), length-drop (a .from) (a .piece .now))
 
 returns : tie.Need-returns
 returns c = (takes (c .before .before .before .before .before .before .find .ensures .0) (c .before .before .before .keep .ensures) (sym (found-cut _ _ _ (omega arith))), refl)

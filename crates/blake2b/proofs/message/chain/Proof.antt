@@ -1,4 +1,4 @@
-use Rattle.rfc7693.specs.Rfc7693.{chain}
+use Rattle.rfc7693.specs.Rfc7693.{absorbed}
 use borrow.Author.Needs.{needs}
 use Rattle.rfc7693.specs.Rfc7693 as spec
 use Rattle.rfc7693.proofs.Laws as laws
@@ -9,13 +9,13 @@ use Rattle.blake2b.proofs.message.chain.Statement.{statement}
 use Rattle.blake2b.proofs.message.chain.Tie as tie
 
 abbrev Inv-loop : tie.InvT-loop
-Inv-loop s n h₀ k₀ h k = (k ≤ n) × (h ≡ spec.chain s k)
+Inv-loop s n h₀ k₀ h k = (k ≤ n) × (h ≡ spec.absorbed s k)
 
 abbrev μ-loop : tie.MeasureT-loop
 μ-loop s n h₀ k₀ h k = n - k
 
 loop-holds : tie.Need-loop-holds Inv-loop μ-loop
-unfolding chain
+unfolding absorbed
 loop-holds c = (omega arith, c .first .ensures)
 
 loop-again : tie.Need-loop-again Inv-loop μ-loop

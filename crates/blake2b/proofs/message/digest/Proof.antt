@@ -1,20 +1,20 @@
 use borrow.Author.Needs.{needs}
 use native.Mathlib.Omega.{arith}
-use Rattle.rfc7693.specs.Rfc7693.{before, hash}
+use Rattle.rfc7693.specs.Rfc7693.{fullBlocks, hash}
 use Rattle.blake2b.proofs.Padding.{block-rest}
 use Rattle.blake2b.proofs.message.digest.Statement.{statement}
 use Rattle.blake2b.proofs.message.digest.Tie as tie
 
 chain-requires : tie.Need-chain-requires
-unfolding before
+unfolding fullBlocks
 chain-requires c κs = omega arith
 
 mul-padded : tie.Need-mul-padded
-unfolding before
+unfolding fullBlocks
 mul-padded c = omega arith
 
 padded-requires : tie.Need-padded-requires
-unfolding before
+unfolding fullBlocks
 padded-requires c κs = omega arith
 
 returns : tie.Need-returns

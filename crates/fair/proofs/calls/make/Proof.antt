@@ -2,7 +2,7 @@ use mathlib.Core.Path.{_≡_, sym, _∙_}
 use mathlib.Core.Bool.{false}
 use borrow.Author.Needs.{needs}
 use native.Mathlib.Omega.{arith}
-use Rattle.fair.specs.Cache.{outside, headerSize, cacheSize}
+use Rattle.fair.specs.Cache.{outside, cacheHeaderSize, cacheSize}
 use lib.ListN.{length}
 use Rattle.fields.proofs.Laws.{length-tail}
 use Rattle.fair.proofs.Headers.{within}
@@ -83,7 +83,7 @@ fill-requires c κs =
     let a = c₁₇ .args in
     let w = within (a .n) (inside c₁₁) in
     let k : length (a .cache .now) ≡ cacheSize (a .n) = c₇ .if4 .left ∙ c₈ .cache-size .ensures in
-    let e = length-tail (a .cache .now) headerSize in
+    let e = length-tail (a .cache .now) cacheHeaderSize in
     (w .1, c₉ .if3 .left, omega arith, c₆ .if5 .left)
 
 returns-6 : tie.Need-returns-6

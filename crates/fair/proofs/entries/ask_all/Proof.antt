@@ -5,7 +5,7 @@ use Prim.Native.Nat.{_*_, _-_, _≤_}
 use native.Mathlib.Omega.{arith}
 use borrow.Author.Tests.{not-false}
 use lib.ListN.{length, drop}
-use Rattle.ed25519.specs.Tally.{Asks}
+use Rattle.ed25519.specs.Inside.{Asks}
 use Rattle.fair.specs.Inside.{publicSize, publicParts}
 use Rattle.fair.proofs.Asking.{none-yet, next-heard, next-unheard}
 use Rattle.fair.proofs.Filling.{asked-none, asked-next, asked-all}

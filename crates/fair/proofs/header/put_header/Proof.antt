@@ -2,12 +2,12 @@ use mathlib.Core.Path.{refl}
 use borrow.Author.Needs.{needs}
 use Rattle.fields.specs.Numbers.{twoBytes}
 use Rattle.fields.proofs.Laws.{put-two}
-use Rattle.fair.specs.Cache.{headerBytes}
+use Rattle.fair.specs.Cache.{cacheHeaderBytes}
 use Rattle.fair.proofs.header.put_header.Statement.{statement}
 use Rattle.fair.proofs.header.put_header.Tie as tie
 
 returns : tie.Need-returns
-unfolding headerBytes
+unfolding cacheHeaderBytes
 returns c =
     let c₂ = c .before .before in
     let c₇ = c₂ .before .before .before .before .before in

@@ -1,7 +1,7 @@
 use mathlib.Core.Path.{sym, _∙_}
 use borrow.Author.Needs.{needs}
 use native.Mathlib.Omega.{arith}
-use Rattle.fair.specs.Cache.{headerIn}
+use Rattle.fair.specs.Cache.{cacheHeaderIn}
 use Rattle.fair.proofs.Headers.{within, never-outside, Formed, good, bad}
 use Rattle.fair.proofs.header.read_header.Statement.{statement}
 use Rattle.fair.proofs.header.read_header.Tie as tie
@@ -35,7 +35,7 @@ returns-4 c =
     sym (bad (c₉ .args .cache .now) (λ w. omega arith))
 
 returns-5 : tie.Need-returns-5
-unfolding headerIn
+unfolding cacheHeaderIn
 returns-5 c =
     let c₃ = c .before .before .before in
     let c₄ = c₃ .before in

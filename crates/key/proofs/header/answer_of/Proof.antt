@@ -1,6 +1,6 @@
 use mathlib.Core.Path.{sym, ap}
 use borrow.Author.Needs.{needs}
-use Rattle.rules.specs.Answers.{answerOf}
+use Rattle.key.specs.Inside.{answerOf}
 use Rattle.key.proofs.header.answer_of.Statement.{statement}
 use Rattle.key.proofs.header.answer_of.Tie as tie
 

@@ -1,6 +1,6 @@
 use mathlib.Core.Path.{sym, ap}
 use borrow.Author.Needs.{needs}
-use Rattle.rules.specs.Answers.{grownOf}
+use Rattle.key.specs.Inside.{grownOf}
 use Rattle.key.proofs.header.grown_of.Statement.{statement}
 use Rattle.key.proofs.header.grown_of.Tie as tie
 

@@ -3,7 +3,7 @@ use native.Mathlib.Omega.{arith}
 use borrow.Author.Needs.{needs}
 use Rattle.lines.specs.Lines.{long}
 use Rattle.verdicts.specs.Judging.{judged}
-use Rattle.ledger.specs.Feeding.{Kept}
+use Rattle.ledger.specs.Inside.{InOrder}
 use Rattle.ledger.proofs.Taking.{writes-in, writes-over}
 use Rattle.ledger.proofs.feeding.broken_line.Statement.{statement}
 use Rattle.ledger.proofs.feeding.broken_line.Tie as tie
@@ -11,7 +11,7 @@ use Rattle.ledger.proofs.feeding.broken_line.Tie as tie
 report-requires : tie.Need-report-requires
 report-requires c κs =
     let s = c .before .before .before .before .before in
-    let k = subst (Kept (s .args .header)) (c .before .before .phase .given .1) (s .pre .0) in
+    let k = subst (InOrder (s .args .header)) (c .before .before .phase .given .1) (s .pre .0) in
     (k .0, k .1, tt, omega (arith, s .pre .1))
 
 returns : tie.Need-returns

@@ -2,8 +2,8 @@ use Prim.Native.Nat.{_-_}
 use mathlib.Core.Path.{_≡_, refl}
 use native.Mathlib.Omega.{arith}
 use lib.ListN.{length}
-use Rattle.ledger.specs.Feeding.{Steps}
-use Rattle.ledger.proofs.Pieces.{steps-none, steps-then, owed-le, feeds-whole}
+use Rattle.ledger.specs.Inside.{Steps}
+use Rattle.ledger.proofs.Pieces.{steps-none, steps-then, owed-le, takes-whole}
 use Rattle.ledger.proofs.feeding.feed.Statement.{statement}
 use Rattle.ledger.proofs.feeding.feed.Tie as tie
 
@@ -47,7 +47,7 @@ same-length-2 c = c .before .loop .inv .2
 returns : tie.Need-returns Inv-loop μ-loop
 returns c =
     let s = c .before .before .before .before .before in
-    (feeds-whole (s .args .stream) (s .args .line .now) (s .args .piece .now) (s .args .out .now) (s .args .at) (omega arith) (c .before .loop .inv .0), refl)
+    (takes-whole (s .args .stream) (s .args .line .now) (s .args .piece .now) (s .args .out .now) (s .args .at) (omega arith) (c .before .loop .inv .0), refl)
 
 pub feed-spec : {M : Type 1} → statement M
 feed-spec =

@@ -1,7 +1,7 @@
 use native.Mathlib.Omega.{arith}
 use borrow.Author.Needs.{needs}
 use Rattle.ledger.proofs.Pieces.{owed-le}
-use Rattle.ledger.proofs.Law.{last-none, last-line}
+use Rattle.ledger.proofs.Law.{last-none, last-written}
 use Rattle.ledger.proofs.feeding.finish.Statement.{statement}
 use Rattle.ledger.proofs.feeding.finish.Tie as tie
 
@@ -17,7 +17,7 @@ put-end-requires-2 c κs =
 returns-2 : tie.Need-returns-2
 returns-2 c =
     let s = c .before .before .before .before .before .before .before .before .before .before .before .before .before in
-    last-line (s .args .stream) (omega arith) (omega (arith, s .pre .1)) (c .before .before .before .before .before .before .before .broken-line .ensures) (c .before .before .put-end2 .ensures)
+    last-written (s .args .stream) (omega arith) (omega (arith, s .pre .1)) (c .before .before .before .before .before .before .before .broken-line .ensures) (c .before .before .put-end2 .ensures)
 
 pub finish-spec : {M : Type 1} → statement M
 finish-spec =

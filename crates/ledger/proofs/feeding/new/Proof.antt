@@ -1,5 +1,5 @@
 use borrow.Author.Needs.{needs}
-use Rattle.ledger.specs.Feeding.{fresh}
+use Rattle.ledger.specs.Remaining.{fresh}
 use Rattle.ledger.proofs.feeding.new.Statement.{statement}
 use Rattle.ledger.proofs.feeding.new.Tie as tie
 

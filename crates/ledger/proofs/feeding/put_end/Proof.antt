@@ -5,7 +5,7 @@ use borrow.Author.Needs.{needs}
 use Rattle.text.specs.Digits.{Puts}
 use Rattle.text.proofs.Writing.{puts-none}
 use Rattle.ledger.specs.declared.Phase.{Phase}
-use Rattle.ledger.specs.Feeding.{endOf}
+use Rattle.ledger.specs.Remaining.{endOf}
 use Rattle.ledger.proofs.feeding.put_end.Statement.{statement}
 use Rattle.ledger.proofs.feeding.put_end.Tie as tie
 

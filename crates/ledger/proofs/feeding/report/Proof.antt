@@ -9,7 +9,7 @@ returns : tie.Need-returns
 returns c =
     let s = c .before .before .before .before .before .before .before .before .before in
     let a = s .args in
-    λ l is. report-on (a .header) (a .books) (a .judged) (s .pre .0) (s .pre .1) (s .pre .2) l is (c .before .before .before .before .before .before .before .after .ensures) (omega arith) (c .between .ensures) (c .before .before .before .before .before .put-line .ensures)
+    λ l is. report-on (a .header) (a .books) (a .judged) (s .pre .0) (s .pre .1) (s .pre .2) l is (c .before .before .before .before .before .before .before .books-after .ensures) (omega arith) (c .between .ensures) (c .before .before .before .before .before .put-line .ensures)
 
 put-total-requires : tie.Need-put-total-requires
 put-total-requires c κs =
@@ -20,7 +20,7 @@ returns-2 : tie.Need-returns-2
 returns-2 c =
     let s = c .before .before .before .before .before .before .before .before .before .before .before .before .before in
     let a = s .args in
-    λ l is. report-last (a .header) (a .books) (a .judged) (s .pre .0) (s .pre .1) (s .pre .2) l is (c .before .before .before .before .before .before .before .before .before .before .before .after .ensures) (omega arith) (c .between2 .ensures) (omega (arith, s .pre .3))
+    λ l is. report-last (a .header) (a .books) (a .judged) (s .pre .0) (s .pre .1) (s .pre .2) l is (c .before .before .before .before .before .before .before .before .before .before .before .books-after .ensures) (omega arith) (c .between2 .ensures) (omega (arith, s .pre .3))
     (c .before .before .before .before .before .before .before .before .before .put-line .ensures) (c .before .before .before .put-total .ensures)
 
 pub report-spec : {M : Type 1} → statement M

@@ -2,8 +2,9 @@ use mathlib.Core.Path.{sym, subst}
 use native.Mathlib.Omega.{arith}
 use borrow.Author.Needs.{needs}
 use Rattle.lines.specs.Lines.{whole}
-use Rattle.verdicts.specs.Judging.{judged, Adds}
-use Rattle.ledger.specs.Feeding.{Kept}
+use Rattle.verdicts.specs.Judging.{judged}
+use Rattle.verdicts.specs.Inside.{Adds}
+use Rattle.ledger.specs.Inside.{InOrder}
 use Rattle.verdicts.proofs.Adding.{judged-adds}
 use Rattle.ledger.proofs.Taking.{writes-in, writes-over}
 use Rattle.ledger.proofs.feeding.whole_line.Statement.{statement}
@@ -12,14 +13,14 @@ use Rattle.ledger.proofs.feeding.whole_line.Tie as tie
 judge-requires : tie.Need-judge-requires
 judge-requires c κs =
     let s = c .before .before .before .before .before in
-    let k = subst (Kept (s .args .header)) (c .before .phase .given .1) (s .pre .0) in
+    let k = subst (InOrder (s .args .header)) (c .before .phase .given .1) (s .pre .0) in
     (k .0, k .1)
 
 report-requires : tie.Need-report-requires
 unfolding judged
 report-requires c κs =
     let s = c .before .before .before .before .before .before .before in
-    let k = subst (Kept (s .args .header)) (c .before .before .before .phase .given .1) (s .pre .0) in
+    let k = subst (InOrder (s .args .header)) (c .before .before .before .phase .given .1) (s .pre .0) in
     let j = judged-adds (s .args .header) (c .before .before .before .phase .given .0 .0) (whole (s .args .line .now)) in
     (k .0, k .1, subst Adds (sym (c .before .judge .ensures .0)) j, omega (arith, s .pre .1))
 

@@ -7,7 +7,7 @@ use lib.ListN.{drop}
 use lib.Seq.{length-take-le, length-front}
 use Rattle.part.specs.Heights.{belowOf}
 use Rattle.rules.specs.Part.{callsNewPart}
-use Rattle.part.specs.Work.{crossWork}
+use Rattle.part.specs.Inside.{crossWork}
 use Rattle.fields.proofs.Laws.{length-tail}
 use Rattle.ed25519.proofs.Tally.{stop}
 use Rattle.tree.specs.Move.{countMove, callsMove}

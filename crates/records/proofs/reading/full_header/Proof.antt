@@ -1,7 +1,7 @@
 use mathlib.Core.Path.{sym, ap, _∙_}
 use borrow.Author.Needs.{needs}
-use Rattle.records.specs.FirstLine.{headed}
-use Rattle.records.proofs.Heading.{full-not, full-first, full-second, full-is}
+use Rattle.records.specs.Inside.{headed}
+use Rattle.records.proofs.LineOne.{full-not, full-first, full-second, full-is}
 use Rattle.records.proofs.reading.full_header.Statement.{statement}
 use Rattle.records.proofs.reading.full_header.Tie as tie
 

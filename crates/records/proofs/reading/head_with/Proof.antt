@@ -1,6 +1,6 @@
 use mathlib.Core.Path.{refl, _∙_}
 use borrow.Author.Needs.{needs}
-use Rattle.records.proofs.Heading.{head-right, head-wrong}
+use Rattle.records.proofs.LineOne.{head-right, head-wrong}
 use Rattle.records.proofs.reading.head_with.Statement.{statement}
 use Rattle.records.proofs.reading.head_with.Tie as tie
 

@@ -1,6 +1,6 @@
 use mathlib.Core.Path.{sym}
 use borrow.Author.Needs.{needs}
-use Rattle.records.proofs.Heading.{other-length}
+use Rattle.records.proofs.LineOne.{other-length}
 use Rattle.records.proofs.reading.is_word.Statement.{statement}
 use Rattle.records.proofs.reading.is_word.Tie as tie
 

@@ -1,5 +1,5 @@
 use mathlib.Core.Path.{refl}
-use Rattle.records.specs.FirstLine.{noHeader}
+use Rattle.records.specs.Inside.{noHeader}
 use Rattle.records.proofs.reading.no_header.Statement.{statement}
 use Rattle.records.proofs.reading.no_header.Tie as tie
 

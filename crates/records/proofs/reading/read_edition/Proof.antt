@@ -1,7 +1,7 @@
 use mathlib.Core.Path.{sym, _∙_}
 use borrow.Author.Needs.{needs}
 use Rattle.records.specs.FirstLine.{wordOf}
-use Rattle.records.proofs.Heading.{says-plain, says-tabbed, says-none}
+use Rattle.records.proofs.LineOne.{says-plain, says-tabbed, says-none}
 use Rattle.records.proofs.reading.read_edition.Statement.{statement}
 use Rattle.records.proofs.reading.read_edition.Tie as tie
 

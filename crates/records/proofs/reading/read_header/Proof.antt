@@ -1,8 +1,8 @@
 use mathlib.Core.Path.{refl, sym, ap, _∙_}
 use borrow.Author.Needs.{needs}
-use Rattle.records.specs.FirstLine.{headed}
+use Rattle.records.specs.Inside.{headed}
 use Rattle.records.proofs.Fielded.{split-as}
-use Rattle.records.proofs.Heading.{head-five, head-other}
+use Rattle.records.proofs.LineOne.{head-five, head-other}
 use Rattle.records.proofs.reading.read_header.Statement.{statement}
 use Rattle.records.proofs.reading.read_header.Tie as tie
 

@@ -1,7 +1,7 @@
 use mathlib.Core.Path.{sym, ap, _∙_}
 use borrow.Author.Needs.{needs}
-use Rattle.records.specs.FirstLine.{headed}
-use Rattle.records.proofs.Heading.{short-not, short-is}
+use Rattle.records.specs.Inside.{headed}
+use Rattle.records.proofs.LineOne.{short-not, short-is}
 use Rattle.records.proofs.reading.short_header.Statement.{statement}
 use Rattle.records.proofs.reading.short_header.Tie as tie
 

@@ -1,5 +1,5 @@
 use borrow.Author.Needs.{needs}
-use Rattle.records.specs.FirstLine.{headed}
+use Rattle.records.specs.Inside.{headed}
 use Rattle.records.proofs.reading.wrong.Statement.{statement}
 use Rattle.records.proofs.reading.wrong.Tie as tie
 

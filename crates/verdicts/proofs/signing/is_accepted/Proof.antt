@@ -2,7 +2,7 @@ use mathlib.Core.Path.{refl}
 use native.Mathlib.Omega.{arith}
 use borrow.Author.Needs.{needs}
 use Rattle.text.proofs.Writing.{puts-front}
-use Rattle.verdicts.proofs.Cases.{accepts-by}
+use Rattle.verdicts.proofs.Cases.{good-by}
 use Rattle.verdicts.proofs.Texts.{message-length}
 use Rattle.verdicts.proofs.signing.is_accepted.Statement.{statement}
 use Rattle.verdicts.proofs.signing.is_accepted.Tie as tie
@@ -15,17 +15,17 @@ part-verify-end c =
 returns : tie.Need-returns
 returns c =
     let a = c .before .before .before .before .before .before .before .before .before .before .before .before .args in
-    (accepts-by (a .header) (a .r) (a .signature .now) (puts-front (c .before .before .before .before .before .before .before .before .put-message .ensures)) (c .before .before .verify .ensures .answers) (c .enum-told .given .1), refl)
+    (good-by (a .header) (a .r) (a .signature .now) (puts-front (c .before .before .before .before .before .before .before .before .put-message .ensures)) (c .before .before .verify .ensures .answers) (c .enum-told .given .1), refl)
 
 returns-2 : tie.Need-returns-2
 returns-2 c =
     let a = c .before .before .before .before .before .before .before .before .before .before .before .before .args in
-    (accepts-by (a .header) (a .r) (a .signature .now) (puts-front (c .before .before .before .before .before .before .before .before .put-message .ensures)) (c .before .before .verify .ensures .answers) (c .enum-told2 .given .1), refl)
+    (good-by (a .header) (a .r) (a .signature .now) (puts-front (c .before .before .before .before .before .before .before .before .put-message .ensures)) (c .before .before .verify .ensures .answers) (c .enum-told2 .given .1), refl)
 
 returns-3 : tie.Need-returns-3
 returns-3 c =
     let a = c .before .before .before .before .before .before .before .before .before .before .before .before .args in
-    (accepts-by (a .header) (a .r) (a .signature .now) (puts-front (c .before .before .before .before .before .before .before .before .put-message .ensures)) (c .before .before .verify .ensures .answers) (c .enum-told3 .given .1), refl)
+    (good-by (a .header) (a .r) (a .signature .now) (puts-front (c .before .before .before .before .before .before .before .before .put-message .ensures)) (c .before .before .verify .ensures .answers) (c .enum-told3 .given .1), refl)
 
 pub is-accepted-spec : {M : Type 1} → statement M
 is-accepted-spec =

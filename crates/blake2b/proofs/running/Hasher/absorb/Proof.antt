@@ -5,7 +5,7 @@ use borrow.Author.Needs.{needs}
 use native.Mathlib.Omega.{arith}
 use lib.ListN.{length, drop, take, length-drop}
 use lib.Seq.{length-take-le}
-use Rattle.blake2b.specs.Running.{pushes}
+use Rattle.blake2b.specs.Inside.{pushes}
 use Rattle.blake2b.specs.declared.running.Hasher.{Hasher}
 use Rattle.blake2b.proofs.Pushes.{push-part, push-full, push-end}
 use Rattle.blake2b.proofs.running.Hasher.absorb.Statement.{statement}

@@ -2,13 +2,13 @@
 import pathlib
 import sys
 
-ROOT = pathlib.Path(__file__).resolve().parents[2]
+ROOT = pathlib.Path(__file__).resolve().parents[3]
 sys.path.insert(0, str(ROOT / "host" / "model"))
 import ed25519
 import fair
 import kes
 import sodium
-from library import ANSWERED, FAIR_MAKE, FAIR_MOVE, FAIR_SIGN, FAIR_VERIFY, HASH, LENT, MAKE, MOVE, READ_KEY, SIGN, VERIFY
+from .library import ANSWERED, FAIR_MAKE, FAIR_MOVE, FAIR_SIGN, FAIR_VERIFY, HASH, LENT, MAKE, MOVE, READ_KEY, SIGN, VERIFY
 
 NAMES = ["make", "read key", "move", "sign", "verify", "hash", "fair make", "fair move", "fair sign", "fair verify"]
 

@@ -1,14 +1,13 @@
--- An input that comes in pieces: the line at an index of a piece is taken into a buffer of 2,048 bytes, of which `held` are in use.
--- A full buffer stands for an over-long line, of which no more is kept. Document 01: "at most 2,048 bytes".
+-- Contracts that only proved callers use, which nobody needs to believe: the line at an index of a piece is taken into a buffer of 2,048 bytes,
+-- of which `held` are in use. A full buffer stands for an over-long line, of which no more is kept.
 use mathlib.Core.Path.{_≡_}
-use mathlib.Core.List.{List, [], _∷_, _++_}
+use mathlib.Core.List.{List, _++_}
 use Prim.Native.Nat.{ℕ, _+_, _-_}
 use lib.Dec.{ltb}
 use lib.ListN.{length, take, drop}
 use Rattle.fields.specs.Fields.{part}
 use Rattle.fields.specs.Tests.{pick}
-use Rattle.text.specs.Fields.{before}
-use Rattle.lines.specs.Lines.{Line, whole, long, linesAfter}
+use Rattle.text.specs.Columns.{upTo}
 use Rattle.lines.specs.declared.Taken.{Taken}
 use Rattle.lines.specs.declared.Taken.the-variants.{Whole, Long, Cut}
 
@@ -17,13 +16,13 @@ unfoldable pub kept : List ℕ → List ℕ
 kept come = take 2048 come
 
 -- bytes were added to the buffer
-pub record Keeps (line : List ℕ) (held : ℕ) (bytes : List ℕ) (r : ℕ) (line′ : List ℕ) : Type 0 where
+pub record Holds (line : List ℕ) (held : ℕ) (bytes : List ℕ) (r : ℕ) (line′ : List ℕ) : Type 0 where
   pub answers : r ≡ length (kept (take held line ++ bytes))
   pub leaves : line′ ≡ kept (take held line ++ bytes) ++ drop r line
 
 -- the LF of the line at index `from`, or the piece's end
 abbrev pub lineEnd : List ℕ → ℕ → ℕ
-lineEnd piece from = from + before 10 (drop from piece)
+lineEnd piece from = from + upTo 10 (drop from piece)
 
 -- the part of the line that the piece has
 abbrev pub inPiece : List ℕ → ℕ → List ℕ
@@ -36,11 +35,5 @@ found end all size = pick (ltb end all) (pick (ltb size 2048) (Whole size (end +
 -- a line was taken, or as much of it as the piece has
 pub record Takes (piece : List ℕ) (from : ℕ) (line : List ℕ) (held : ℕ) (r : Taken) (line′ : List ℕ) : Type 0 where
   pub size : ℕ
-  pub keeps : Keeps line held (inPiece piece from) size line′
+  pub keeps : Holds line held (inPiece piece from) size line′
   pub answers : r ≡ found (lineEnd piece from) (length piece) size
-
--- the lines that are still to come after what was taken
-abbrev pub stillIn : Taken → List ℕ → List ℕ → List ℕ → List Line
-stillIn (Whole size next) line piece more = whole (take size line) ∷ linesAfter [] (drop next piece ++ more)
-stillIn (Long next) line piece more = long ∷ linesAfter [] (drop next piece ++ more)
-stillIn (Cut size) line piece more = linesAfter (take size line) more

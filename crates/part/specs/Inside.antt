@@ -1,12 +1,13 @@
--- Definitions that the code's steps are stated by, beside the rules of `Part`: a step of the top tree entered by a move, the verdict of rule 8 in the order in
--- which it is cheap, and work over a body under a tally (request 4).
+-- Contracts of functions that `key` alone calls, which nobody needs to believe. They are stated by: a step of the top tree entered by a move, the verdict of
+-- rule 8 in the order in which it is cheap, and work over a body under a tally.
 use mathlib.Core.List.{List, [], _∷_}
 use mathlib.Core.Bool.{Bool, true, _&&_}
 use mathlib.Core.Path.{_≡_}
 use Prim.Native.Nat.{ℕ, _+_, _-_}
 use lib.ListN.{take, drop}
 use Rattle.tree.specs.Seeds.{left}
-use Rattle.ed25519.specs.Tally.{Run, asked, Leaves}
+use Rattle.ed25519.specs.Tally.{Run, asked}
+use Rattle.ed25519.specs.Inside.{Leaves}
 use Rattle.tree.specs.Answers.{grewOf}
 use Rattle.tree.specs.declared.moving.Grew.{Grew}
 use Rattle.tree.specs.Move.{movedTree, countMove, callsMove}

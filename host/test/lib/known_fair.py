@@ -2,7 +2,7 @@
 import ed25519
 import kes
 from fair import Fair, cache_size
-from known_key import H1, H2, SCHEME, TABLES
+from .known_key import H1, H2, SCHEME, TABLES
 from receipt import Checker
 
 MORNING = 2  # the desk's step

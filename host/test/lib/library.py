@@ -3,7 +3,7 @@ import pathlib
 import struct
 import subprocess
 
-ROOT = pathlib.Path(__file__).resolve().parents[2]
+ROOT = pathlib.Path(__file__).resolve().parents[3]
 MAKE, READ_KEY, MOVE, SIGN, VERIFY, HASH, FAIR_MAKE, FAIR_MOVE, FAIR_SIGN, FAIR_VERIFY = range(10)
 # a tally, and the numbers n that are not answered: those with n % every == silent, none where every is 0
 ANSWERED = (0, 0, 0)
@@ -19,8 +19,8 @@ class Ended(Exception):
 
 
 def program(folder, name, adapter="sodium", *words):
-    """The program of host/test/NAME.c, compiled with these words and linked with the library and an adapter."""
-    made, source = pathlib.Path(folder) / f"{name}_{adapter}", ROOT / "host" / "test" / f"{name}.c"
+    """The program of host/test/lib/NAME.c, compiled with these words and linked with the library and an adapter."""
+    made, source = pathlib.Path(folder) / f"{name}_{adapter}", ROOT / "host" / "test" / "lib" / f"{name}.c"
     archives = [ROOT / "build" / "libkes.a", ROOT / "build" / f"libkes_{adapter}.a", BEHIND[adapter]]
     subprocess.run(["gcc", *STRICT, f"-I{ROOT / 'include'}", source, *words, *archives, "-o", made], check=True)
     return made
@@ -29,7 +29,7 @@ def program(folder, name, adapter="sodium", *words):
 def linked(folder, name, wrapped=(), flags=()):
     """The same over lent.c; calls of Ed25519 and of the wrapped functions go through the program's own."""
     wraps = [f"-Wl,--wrap={function}" for function in [*COUNTED, *wrapped]]
-    return program(folder, name, "sodium", *flags, ROOT / "host" / "test" / "lent.c", *wraps)
+    return program(folder, name, "sodium", *flags, ROOT / "host" / "test" / "lib" / "lent.c", *wraps)
 
 
 class Library:

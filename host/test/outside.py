@@ -1,5 +1,5 @@
 #!/usr/bin/env python3
-"""Runs Ed25519 through the seam: the program ed25519_cases, linked with each adapter in turn, answers RFC 8032's vectors,
+"""Runs Ed25519 through the outside calls: the program ed25519_cases, linked with each adapter in turn, answers RFC 8032's vectors,
 random cases and damaged ones as a model written from the RFC does. Ends at the first difference. Needs desk/build before."""
 import pathlib
 import random
@@ -58,7 +58,7 @@ def damaged():
     tries |= {"all zero": (bytes(32), b"", bytes(64)), "other key": (ed25519.public_key(message[:32]), message, signature)}
     for name, case in tries.items():
         if ed25519.verify(*case):
-            sys.exit(f"seam: the model accepts {name}")
+            sys.exit(f"outside: the model accepts {name}")
         yield f"damaged {name}", ask_verify(*case), verdict(False)
 
 
@@ -77,7 +77,7 @@ def model():
     for name, v in vectors():
         made = ed25519.public_key(v["secret"]), ed25519.sign(v["secret"], v["message"])
         if made != (v["public"], v["signature"]) or not ed25519.verify(v["public"], v["message"], v["signature"]):
-            sys.exit(f"seam: the model differs from RFC 8032 at {name}")
+            sys.exit(f"outside: the model differs from RFC 8032 at {name}")
 
 
 def program(adapter):
@@ -96,24 +96,24 @@ def run(made, adapter, group, cases):
     wrote = answers(made, [case[1] for case in cases])
     for name, _, answer in cases:
         if wrote[: len(answer)] != answer:
-            sys.exit(f"seam: {adapter}: {name}: {wrote[:len(answer)].hex()}, not {answer.hex()}")
+            sys.exit(f"outside: {adapter}: {name}: {wrote[:len(answer)].hex()}, not {answer.hex()}")
         wrote = wrote[len(answer) :]
     if wrote:
-        sys.exit(f"seam: {adapter}: {group}: {len(wrote)} bytes too many")
-    print(f"seam: {adapter}: {group}: {len(cases)} answers are right ({time.time() - began:.1f} s)", flush=True)
+        sys.exit(f"outside: {adapter}: {group}: {len(wrote)} bytes too many")
+    print(f"outside: {adapter}: {group}: {len(cases)} answers are right ({time.time() - began:.1f} s)", flush=True)
 
 
 def main():
     began = time.time()
     model()
     groups = {"RFC 8032's vectors": list(published()), "random": list(drawn()), "damaged": list(damaged())}
-    print(f"seam: the model agrees with RFC 8032 and has made its answers ({time.time() - began:.1f} s)", flush=True)
+    print(f"outside: the model agrees with RFC 8032 and has made its answers ({time.time() - began:.1f} s)", flush=True)
     for adapter in ("sodium", "openssl"):
         made = program(adapter)
         for group, cases in groups.items():
             run(made, adapter, group, cases)
         verdicts = zip(exotic(), answers(made, [request for _, request in exotic()]))
-        print(f"seam: {adapter}: for docs/ASSUMPTIONS.md: " + ", ".join(f"{name} {('refused', 'accepted')[v]}" for (name, _), v in verdicts))
+        print(f"outside: {adapter}: for docs/ASSUMPTIONS.md: " + ", ".join(f"{name} {('refused', 'accepted')[v]}" for (name, _), v in verdicts))
 
 
 main()

@@ -3,7 +3,7 @@
 #define desk_ed25519_public_key sodium_public_key
 #define desk_ed25519_sign sodium_sign
 #define desk_ed25519_verify sodium_verify
-#include "../../desk/ed25519_sodium.c"
+#include "../../../desk/ed25519_sodium.c"
 #undef desk_ed25519_public_key
 #undef desk_ed25519_sign
 #undef desk_ed25519_verify

@@ -1,4 +1,4 @@
-/* Stands between the example desk and the system, for host/test/crashes.py: each call that was made is a line in the file that
+/* Stands between the example desk and the system, for crashes.py: each call that was made is a line in the file that
  * DESK_LOG names, random bytes are DESK_RANDOM and the numbers after it, and nothing is synced in earnest, since crashes.py says what a
  * power cut leaves. It stands between the library and Ed25519 too: there each asking has to be made at the next number.
  *   DESK_STOP=n    the process ends before call n
@@ -18,7 +18,7 @@
 #include <time.h>
 #include <unistd.h>
 
-#include "../../desk/adapter.h"
+#include "../../../desk/adapter.h"
 
 #define BOTH(call) extern __typeof__(call) __real_##call, __wrap_##call
 BOTH(openat);

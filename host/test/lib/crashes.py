@@ -14,9 +14,9 @@ import tempfile
 import time
 import types
 
-from disk import Disk
+from .disk import Disk
 
-ROOT = pathlib.Path(__file__).resolve().parents[2]
+ROOT = pathlib.Path(__file__).resolve().parents[3]
 NO_FILES = frozenset()
 NOT_REACHED, REACHED = b"module not reached: keep cash and card apart until it is back\n", b"module reached again\n"
 
@@ -69,7 +69,7 @@ class Program:
 
     def __init__(self, root, work):
         self.work, self.program = work, work / self.name
-        power = ROOT / "host" / "test" / "power.c"
+        power = ROOT / "host" / "test" / "lib" / "power.c"
         wraps = [f"-Wl,--wrap={name}" for name in re.findall(r"^BOTH\((\w+)\);", power.read_text(), re.M)]
         subprocess.run([root / "host" / "desk" / "compile", self.program, "-O0", power, *wraps], check=True)
         self.restart = functools.cache(self.restart)

@@ -57,7 +57,7 @@ def main():
         for name, data in made.items():
             if (FOLDER / name).read_bytes() != data:
                 sys.exit(f"crates/ed25519_cases/{name} is not what host/model/seam_cases.py writes")
-        print(f"seam cases: {len(requests)} requests and answers are those of the model")
+        print(f"ed25519 cases: {len(requests)} requests and answers are those of the model")
     else:
         for name, data in made.items():
             (FOLDER / name).write_bytes(data)

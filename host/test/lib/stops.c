@@ -2,7 +2,7 @@
  * the answer. */
 #include <string.h>
 
-#include "../../desk/adapter.h"
+#include "../../../desk/adapter.h"
 
 static int left;
 static int fails(void) { return left-- <= 0; }
