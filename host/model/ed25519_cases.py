@@ -56,7 +56,7 @@ def main():
     if sys.argv[1:] == ["--check"]:
         for name, data in made.items():
             if (FOLDER / name).read_bytes() != data:
-                sys.exit(f"crates/ed25519_cases/{name} is not what host/model/seam_cases.py writes")
+                sys.exit(f"crates/ed25519_cases/{name} is not what host/model/ed25519_cases.py writes")
         print(f"ed25519 cases: {len(requests)} requests and answers are those of the model")
     else:
         for name, data in made.items():

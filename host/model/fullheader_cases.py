@@ -4,14 +4,14 @@ With --check it writes nothing and says whether the files are those.
 
 A case is a name, the heights that its author saw go in, and the input. Where the model writes something else, or where no case notices one
 of the misreadings below, nothing is written."""
-import pathlib
 import re
 import sys
 from unittest.mock import patch
 
 import fullheader
+from filed import CRATES, file
 
-PROGRAM, FOLDER = (pathlib.Path(__file__).resolve().parents[2] / "crates" / name for name in ("fullheader", "fullheader_cases"))
+PROGRAM = CRATES / "fullheader"
 KEY = bytes(range(0, 256, 8)).hex().encode()
 LINES = b"0\t1111222233334444\t1\t2500\tab\n\n\0\xff\r\n" + b"x" * 2100 + b"\nkes\t" + KEY + b"\n"
 
@@ -84,18 +84,6 @@ def as_read(data, heights):
     return data if heights is None else data.replace(b"\t", b"\t%s\t" % heights.replace(" ", "\t").encode(), 1)
 
 
-def made():
-    """The files of the crate."""
-    files = {f"data/{name}": data for name, _, data in CASES}
-    files["args"] = b"".join(name.encode() + b"\n" for name, _, _ in CASES)
-    files["stdout"] = b"".join(b"== %s\n%s" % (name.encode(), fullheader.in_full(data)) for name, _, data in CASES)
-    return files
-
-
-def on_disk():
-    return {str(path.relative_to(FOLDER)): path.read_bytes() for path in [*FOLDER.glob("data/*"), FOLDER / "args", FOLDER / "stdout"]}
-
-
 def sound():
     """Each case has a name of its own and is written as its author read it, and each misreading is noticed."""
     for name, heights, data in CASES:
@@ -109,19 +97,5 @@ def sound():
                 sys.exit(f"fullheader cases: none notices this misreading: {words}")
 
 
-def main():
-    sound()
-    files = made()
-    if sys.argv[1:] != ["--check"]:
-        (FOLDER / "data").mkdir(exist_ok=True)
-        for stale in FOLDER.glob("data/*"):
-            stale.unlink()
-        for name, data in files.items():
-            (FOLDER / name).write_bytes(data)
-    elif on_disk() != files:
-        sys.exit("crates/fullheader_cases has not the data, args and stdout that host/model/fullheader_cases.py writes")
-    else:
-        print(f"fullheader cases: {len(CASES)} journals are written out as by the model; {len(MISREADINGS)} planted misreadings are noticed")
-
-
-main()
+sound()
+file("fullheader_cases", CASES, fullheader.in_full, f"fullheader cases: {len(CASES)} journals are written out as by the model; {len(MISREADINGS)} planted misreadings are noticed")

@@ -6,17 +6,16 @@ Each group below is a sentence of document 01, "The top-up journal", or of reque
 and the journal. The letters are the author's reading, the output is the model's: where the two differ, or where no case notices one of the
 misreadings of misread.py, nothing is written. Not run: that reading ends after line 4,294,967,295. A line of 2,048 bytes is M like one of
 2,049, since no record is longer than 2,030."""
-import pathlib
 import re
 import sys
 
 import standin
 from desk import Desk
+from filed import file
 from journal import LONGEST_LINE, Judge
 from kes import Module, Scheme, steps
 from misread import MISREADINGS
 
-FOLDER = pathlib.Path(__file__).resolve().parents[2] / "crates" / "journal_cases"
 SCHEME = Scheme(Module(standin))
 # desks whose keys have 1, 8, 4,096 and 2^24 steps, and some that write `kes2`
 ONE, EIGHT, SHORT, TALLEST = (Desk(SCHEME, h1, h2, range(32)) for h1, h2 in ((0, 0), (1, 2), (6, 6), (12, 12)))
@@ -270,18 +269,6 @@ def found(output):
     return "".join(re.findall(r"^\d+\t([A-Z])$", output.decode(), re.M))
 
 
-def made():
-    """The files of the crate."""
-    files = {f"data/{name}": data for name, _, data in CASES}
-    files["args"] = ended(*(name.encode() for name, _, _ in CASES))
-    files["stdout"] = b"".join(b"== %s\n%s" % (name.encode(), JUDGE.output(data)) for name, _, data in CASES)
-    return files
-
-
-def on_disk():
-    return {str(path.relative_to(FOLDER)): path.read_bytes() for path in [*FOLDER.glob("data/*"), FOLDER / "args", FOLDER / "stdout"]}
-
-
 def sound():
     """Each case has a name of its own and the letters that its author read, every letter occurs, and each misreading is noticed."""
     for name, letters_read, data in CASES:
@@ -295,19 +282,5 @@ def sound():
                 sys.exit(f"journal cases: none notices this misreading: {words}")
 
 
-def main():
-    sound()
-    files = made()
-    if sys.argv[1:] != ["--check"]:
-        (FOLDER / "data").mkdir(exist_ok=True)
-        for stale in FOLDER.glob("data/*"):
-            stale.unlink()
-        for name, data in files.items():
-            (FOLDER / name).write_bytes(data)
-    elif on_disk() != files:
-        sys.exit("crates/journal_cases has not the data, args and stdout that host/model/journal_cases.py writes")
-    else:
-        print(f"journal cases: {len(CASES)} journals and their output are those of the model; {len(MISREADINGS)} planted misreadings are noticed")
-
-
-main()
+sound()
+file("journal_cases", CASES, JUDGE.output, f"journal cases: {len(CASES)} journals and their output are those of the model; {len(MISREADINGS)} planted misreadings are noticed")

@@ -5,6 +5,8 @@ ghost use lib.ListN.{length, replicate};
 ghost use Rattle.blake2b.specs.Calls.{hashOutcome};
 use libc::STDIN_FILENO;
 use libc::STDOUT_FILENO;
+use refusal::Answer;
+use rules::Verdict;
 
 // The seed that keys and trees grow from.
 pub const SEED: [u8; 32] = [
@@ -63,11 +65,26 @@ pub fn show_number(n: u64) {
     io::print_decimal(STDOUT_FILENO, n);
 }
 
+pub fn show_answer(answer: Answer) {
+    match answer {
+        Answer::Done => show_number(0),
+        Answer::Refused(why) => show_number(refusal::number(why) as u64),
+    }
+}
+
+pub fn show_verdict(verdict: Verdict) {
+    match verdict {
+        Verdict::Accepted => show_number(0),
+        Verdict::Rejected => show_number(100),
+        Verdict::Refused(why) => show_number(refusal::number(why) as u64),
+    }
+}
+
 pub fn show_field(field: [u8; 32]) {
     io::write_all(STDOUT_FILENO, b" ");
     let mut i: usize = 0;
     while i < 32 {
-        io::print_hex(STDOUT_FILENO, fields::wide(field[i]) as u64, 2);
+        io::print_hex(STDOUT_FILENO, fields::wide(field[i]), 2);
         i += 1;
     }
 }

@@ -7,8 +7,10 @@ use cases::ANSWERED;
 use cases::SILENT;
 use cases::digest;
 use cases::end_line;
+use cases::show_answer;
 use cases::show_field;
 use cases::show_number;
+use cases::show_verdict;
 use libc::STDOUT_FILENO;
 use refusal::Answer;
 use rules::Verdict;
@@ -18,21 +20,6 @@ fn room() -> [u8; 32900]
     ensures { λ r. ⌜ 32900 ≡ length r ⌝ }
 {
     [9; 32900]
-}
-
-fn show_answer(answer: Answer) {
-    match answer {
-        Answer::Done => show_number(0),
-        Answer::Refused(why) => show_number(refusal::number(why) as u64),
-    }
-}
-
-fn show_verdict(verdict: Verdict) {
-    match verdict {
-        Verdict::Accepted => show_number(0),
-        Verdict::Rejected => show_number(100),
-        Verdict::Refused(why) => show_number(refusal::number(why) as u64),
-    }
 }
 
 // The end of the piece of at most 4,096 bytes that begins at an index.

@@ -37,6 +37,13 @@ filled-by x d at n h l =
     let e : at + n - at ≡ n = omega arith in
     rw (e, length-part d at n h, put-whole x (part d at n) n l)
 
+-- a field lent and made zeros
+pub zeroed : (d : List ℕ) (at n : ℕ) {z : List ℕ} → at + n ≤ length d → z ≡ replicate (length (part d at (at + n - at))) 0
+    → take at d ++ (z ++ drop (at + n - at) (drop at d)) ≡ put d at n (replicate n 0)
+zeroed d at n h e =
+    let same : at + n - at ≡ n = omega arith in
+    rw (e, same, length-part d at n h, drop-drop)
+
 -- a field of a list's front
 pub part-front : (x y : List ℕ) (at n : ℕ) → at + n ≤ length x → part (x ++ y) at n ≡ part x at n
 part-front x y at n h =

@@ -77,6 +77,14 @@ pub fn zero(out: &mut [u8])
     }
 }
 
+// Makes the field of 32 bytes in out from index at on zero.
+pub fn zero32(out: &mut [u8], at: usize)
+    requires { ⌜ at + 32 ≤ length (now out) ⌝ }
+    ensures { λ _. ⌜ now (out .exit) ≡ put (now (out .entry)) at 32 (replicate 32 0) ⌝ }
+{
+    zero(&mut out[at..at + 32]);
+}
+
 // Whether two slices of one length hold the same bytes.
 pub fn equal(x: &[u8], y: &[u8]) -> bool
     requires { ⌜ length (now x) ≡ length (now y) ⌝ }

@@ -4,10 +4,10 @@ ghost use Prim.Native.Nat.{_+_, _%_, _<_, _≤_};
 ghost use lib.ListN.{length};
 ghost use Rattle.fields.specs.Numbers.{twoBytes, fourBytes, twoIn, fourIn};
 
-pub fn wide(b: u8) -> usize
+pub fn wide(b: u8) -> u64
     ensures { λ r. ⌜ (r ≡ b) × (r < 256) ⌝ }
 {
-    b as usize
+    b as u64
 }
 
 // The lowest byte of n.
@@ -35,7 +35,7 @@ pub fn get_two(s: &[u8], at: usize) -> usize
     ensures { λ r. ⌜ r ≡ twoIn (now (s .entry)) at ⌝ }
     ensures { λ _. ⌜ now (s .exit) ≡ now (s .entry) ⌝ }
 {
-    wide(s[at]) + wide(s[at + 1]) * 256
+    (wide(s[at]) + wide(s[at + 1]) * 256) as usize
 }
 
 // The number in the four bytes of s from index at on.
@@ -44,5 +44,8 @@ pub fn get_four(s: &[u8], at: usize) -> usize
     ensures { λ r. ⌜ r ≡ fourIn (now (s .entry)) at ⌝ }
     ensures { λ _. ⌜ now (s .exit) ≡ now (s .entry) ⌝ }
 {
-    wide(s[at]) + wide(s[at + 1]) * 256 + wide(s[at + 2]) * 65536 + wide(s[at + 3]) * 16777216
+    (wide(s[at])
+        + wide(s[at + 1]) * 256
+        + wide(s[at + 2]) * 65536
+        + wide(s[at + 3]) * 16777216) as usize
 }

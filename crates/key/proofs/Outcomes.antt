@@ -4,7 +4,7 @@ use mathlib.Core.List.{List, [], _∷_, _++_}
 use mathlib.Core.Bool.{Bool, true, false, not}
 use Prim.Native.Nat.{ℕ, _-_, _≤_, _<_}
 use native.Mathlib.Omega.{arith}
-use lib.ListN.{length, take, drop, take-append-drop}
+use lib.ListN.{length, replicate, take, drop, take-append-drop}
 use lib.Seq.{take-all}
 use borrow.Author.Tests.{le-ltb, lt-ltb, le-leb, lt-leb, eq-eqb, ne-eqb, not-true, not-false}
 use Rattle.fields.specs.Fields.{part, put}
@@ -15,7 +15,8 @@ use Rattle.refusal.specs.declared.Refusal.{Refusal}
 use Rattle.refusal.specs.declared.Refusal.the-variants.{Height, SeedOrKey, Length, NotLater, PastEnd, TooLong, Unanswered}
 use Rattle.ed25519.specs.Tally.{Run, asked}
 use Rattle.ed25519.specs.Inside.{Asks, Leaves}
-use Rattle.tree.specs.Tree.{zeros, rootIn}
+use Rattle.tree.specs.Tree.{rootIn}
+use Rattle.tree.proofs.Growing.{zeros-are}
 use Rattle.tree.specs.Answers.{grewOf}
 use Rattle.tree.specs.declared.moving.Grew.{Grew}
 use Rattle.tree.specs.declared.moving.Grew.the-variants as grew
@@ -85,15 +86,15 @@ module _ (h1 h2 : ℕ) (s d : List ℕ) (t : ℕ) where
             let kept : ys ≡ bodyIn d = w′ .leaves .is ∙ rw y in
             makes (made h1 h2 (makeWork h1 h2 s)) makes-on (rw y) (rw y) (tail-back d ys headerSize ∙ rw (y, kept) (take-append-drop headerSize d)) (w′ .tallies)
 
-        pub make-done : {k : ℕ} {z s′ d′ : List ℕ} → a ≡ grew.Count k → d′ ≡ headerBytes (header h1 h2 0) ++ bodyIn (relaid d ys) → z ≡ zeros → s′ ≡ put s 0 32 z
+        pub make-done : {k : ℕ} {s′ d′ : List ℕ} → a ≡ grew.Count k → d′ ≡ headerBytes (header h1 h2 0) ++ bodyIn (relaid d ys) → s′ ≡ replicate (length s) 0
             → Makes h1 h2 s d t (grown.Done k) s′ d′ t′
-        make-done {k} {z} ea ed ez es =
+        make-done {k} ea ed es =
             let w′ = made-work in
             let y = count-given (asked (makeWork h1 h2 s .calls) t .given) (makeWork h1 h2 s .count) (sym ea ∙ w′ .answers) in
             let ek : grew.Count k ≡ grew.Count (makeWork h1 h2 s .count) = sym ea ∙ w′ .answers ∙ rw y in
             let c : k ≡ makeWork h1 h2 s .count = cc ek in
             let ey : ys ≡ makeWork h1 h2 s .body = w′ .leaves .is ∙ rw y in
-            makes (made h1 h2 (makeWork h1 h2 s)) makes-on (rw (y, c)) (rw y (es ∙ put-whole s z 32 ls ∙ ez))
+            makes (made h1 h2 (makeWork h1 h2 s)) makes-on (rw (y, c)) (rw y (es ∙ rw ls zeros-are))
             (ed ∙ rw (y, drop-back d ys headerSize (omega arith), ey)) (w′ .tallies)
 
 -- read key

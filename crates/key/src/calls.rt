@@ -43,8 +43,7 @@ pub fn make(h1: u64, h2: u64, seed: &mut [u8], table: &mut [u8], tally: &mut u64
         return Grown::Refused(Refusal::Unanswered);
     };
     put_header(table, Header { h1, h2, step: 0 });
-    let zeros = [0u8; 32];
-    fields::put32(seed, 0, zeros);
+    fields::zero(seed);
     Grown::Done(count as u64)
 }
 

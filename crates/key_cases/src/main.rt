@@ -8,8 +8,10 @@ use cases::SEED;
 use cases::SILENT;
 use cases::digest;
 use cases::end_line;
+use cases::show_answer;
 use cases::show_field;
 use cases::show_number;
+use cases::show_verdict;
 use key::Grown;
 use key::Verdict;
 use libc::STDOUT_FILENO;
@@ -36,21 +38,6 @@ fn show_grown(answer: Grown) {
             show_number(count);
         }
         Grown::Refused(why) => show_number(refusal::number(why) as u64),
-    }
-}
-
-fn show_answer(answer: Answer) {
-    match answer {
-        Answer::Done => show_number(0),
-        Answer::Refused(why) => show_number(refusal::number(why) as u64),
-    }
-}
-
-fn show_verdict(verdict: Verdict) {
-    match verdict {
-        Verdict::Accepted => show_number(0),
-        Verdict::Rejected => show_number(100),
-        Verdict::Refused(why) => show_number(refusal::number(why) as u64),
     }
 }
 

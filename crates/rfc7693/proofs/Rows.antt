@@ -7,6 +7,7 @@ use native.Mathlib.Omega.{arith}
 use lib.Dec.{ltb}
 use lib.ListN.{getD}
 use borrow.Author.Tests.{ltb-true}
+use Rattle.fields.proofs.Cases.{both}
 use Rattle.rfc7693.specs.Rfc7693.{SIGMA, MIXINGS, Places, mixing, mixings, round, rounds}
 
 -- a test that is computed over a table, and what it says of each row
@@ -17,10 +18,6 @@ fits (x ∷ xs) = ltb x 16 && fits xs
 abbrev allFit : List (List ℕ) → Bool
 allFit [] = true
 allFit (p ∷ ps) = fits p && allFit ps
-
-both : (x y : Bool) → (x && y) ≡ true → (x ≡ true) × (y ≡ true)
-both true y e = (refl, e)
-both false y e = absurd (let z : _≡_ {A = ℕ} 0 1 = cc in let q : ⊥ = omega arith in q)
 
 places : (xs : List ℕ) → fits xs ≡ true → Places xs
 places [] e i = omega arith

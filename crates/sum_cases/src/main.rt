@@ -41,7 +41,7 @@ fn serve_one(head: &mut [u8], message: &mut [u8], signature: &mut [u8]) -> bool
 fn judge(head: &[u8], message: &[u8], signature: &mut [u8]) -> bool
     requires { ⌜ (length (now head) ≡ 39) × (length (now signature) ≡ 4096) ⌝ }
 {
-    let h = fields::wide(head[0]);
+    let h = fields::wide(head[0]) as usize;
     if h > 12 {
         return false;
     }

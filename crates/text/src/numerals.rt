@@ -3,12 +3,7 @@ ghost use mathlib.Core.Path.{_≡_};
 ghost use Prim.Native.Nat.{_<_};
 ghost use Rattle.text.specs.Numerals.{digitsUpTo, noLeadingZero, numberIn};
 use crate::Number;
-
-fn wide(x: u8) -> u64
-    ensures { λ r. ⌜ (r ≡ x) × (r < 256) ⌝ }
-{
-    x as u64
-}
+use fields::wide;
 
 // The number up to high that s writes, whatever zeros stand in front.
 pub fn read_digits(s: &[u8], high: u64) -> Number

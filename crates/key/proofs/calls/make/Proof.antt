@@ -4,7 +4,6 @@ use native.Mathlib.Omega.{arith}
 use lib.ListN.{length}
 use borrow.Author.Needs.{needs}
 use Rattle.fields.proofs.Laws.{length-tail}
-use Rattle.tree.proofs.Growing.{zeros-are}
 use Rattle.rules.specs.Calls.{tooHigh}
 use Rattle.rules.specs.Table.{headerSize, tableSize}
 use Rattle.rules.proofs.Headers.{not-high}
@@ -87,7 +86,7 @@ returns-5 c =
     let c₂₁ = c₂₀ .before in
     let a = c₂₁ .before .before .before .before .args in
     make-done (a .h1) (a .h2) (a .seed .now) (a .table .now) (a .tally .now) (low c₂₁) (c₂₀ .if2 .left) (c₁₉ .table-size .ensures) (c₁₈ .if3 .left)
-    (c₁₆ .get32 .ensures .0) (c₁₃ .make-body .ensures) (c₉ .grown .given .1) (c₆ .put-header .ensures) zeros-are (c₂ .put32 .ensures)
+    (c₁₆ .get32 .ensures .0) (c₁₃ .make-body .ensures) (c₉ .grown .given .1) (c₆ .put-header .ensures) (c₂ .zero .ensures)
 
 pub make-spec : {M : Type 1} → statement M
 make-spec =
