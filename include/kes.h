@@ -16,8 +16,9 @@
  *     at the first asking without an answer and gives KES_UNANSWERED: then the tally has gone on and nothing else has changed, and the
  *     same call may be made again with the tally as it was left. Keep one tally for one module, in one variable, for all calls; begin
  *     anywhere, never set it back, and share it with no other thread.
- *   - kes_make and kes_move answer a number and a count in one word: take them apart with kes_number and kes_count.
- *     Such a word is never 0 when the call is done, so `if (kes_move(..) == 0)` is always wrong.
+ *   - kes_make, kes_move and kes_catch_up answer a number and a count in one word: take them apart with kes_number and kes_count.
+ *     When a make or a move is done the word is never 0, so `if (kes_move(..) == 0)` is always wrong; of a catch-up it is 0 where
+ *     the key has stayed.
  *     The other calls, those of the fair too, answer the number alone.
  */
 #ifndef KES_H
@@ -86,7 +87,7 @@ static inline uint64_t kes_steps(uint64_t h1, uint64_t h2) { return KES_HEIGHTS_
 static inline size_t kes_fair_cache_size(uint64_t n) { return KES_FAIR_CACHE_SIZE(n); }
 static inline size_t kes_fair_seeds_size(uint64_t n) { return KES_FAIR_SEEDS_SIZE(n); }
 
-/* The number and the count in the answer of kes_make and kes_move. */
+/* The number and the count in the answer of kes_make, kes_move and kes_catch_up. */
 static inline uint32_t kes_number(uint64_t answer) { return (uint32_t)answer; }
 static inline uint32_t kes_count(uint64_t answer) { return (uint32_t)(answer >> 32); }
 
@@ -103,6 +104,12 @@ KES_CHECKED uint32_t kes_read_key(const uint8_t *table, size_t table_len, uint8_
  *     uint64_t moved = kes_move(table, table_len, now, &tally);
  *     if (kes_number(moved) == KES_DONE) ... kes_count(moved) key pairs were grown */
 KES_CHECKED uint64_t kes_move(uint8_t *table, size_t table_len, uint64_t step, uint64_t *tally);
+
+/* Moves a key to this step if that is later. A step that is not later is no fault: done with count 0, the table and the tally as they
+ * were. So two timers may ask in any order, under one lock. Refuses 3, 6, 9.
+ *     uint64_t caught = kes_catch_up(table, table_len, now, &tally);
+ *     if (kes_number(caught) == KES_DONE && kes_count(caught) > 0) ... the key has moved: store it */
+KES_CHECKED uint64_t kes_catch_up(uint8_t *table, size_t table_len, uint64_t step, uint64_t *tally);
 
 /* Signs a message at the table's step. Refuses 3, 7, 4, 9. */
 KES_CHECKED uint32_t kes_sign(const uint8_t *table, size_t table_len, const uint8_t *message, size_t message_len, uint8_t *signature, size_t signature_len, uint64_t *tally);

@@ -104,6 +104,45 @@ static struct work key_work(int w, const struct key *k)
     return work;
 }
 
+/* Nanoseconds of processor time of one catch-up to step 1, over a key as it was made. */
+static double caught_up(const struct key *k)
+{
+    double began;
+    lay_out(k);
+    began = nanoseconds(CLOCK_PROCESS_CPUTIME_ID);
+    must(kes_count(kes_catch_up(table, k->table_len, 1, &tally)) > 0, "a key does not catch up");
+    return nanoseconds(CLOCK_PROCESS_CPUTIME_ID) - began;
+}
+
+/* Of one that stays: many between two readings of the clock, which takes longer than it. */
+static double stayed(const struct key *k)
+{
+    enum { TIMES = 1000 };
+    double began;
+    int i;
+    lay_out(k);
+    began = nanoseconds(CLOCK_PROCESS_CPUTIME_ID);
+    for (i = 0; i < TIMES; i++)
+        must(kes_catch_up(table, k->table_len, 0, &tally) == KES_DONE, "a key does not stay");
+    return (nanoseconds(CLOCK_PROCESS_CPUTIME_ID) - began) / TIMES;
+}
+
+/* A catch-up that stays asks Ed25519 for nothing and has no floor: it is held against one from 0 to 1. */
+static void tell_stay(const struct key *k)
+{
+    static double stays[ROUNDS], moves[ROUNDS];
+    double stay, move;
+    int round;
+    for (round = 0; round < ROUNDS; round++) {
+        stays[round] = stayed(k);
+        moves[round] = caught_up(k);
+    }
+    stay = median(stays, ROUNDS);
+    move = median(moves, ROUNDS);
+    printf("# catch-up that stays (%u,%u): %.0f ns, %.2f percent of one from 0 to 1; aim: below 1: %s\n", (unsigned)k->h1, (unsigned)k->h2, stay, 100 * stay / move,
+           100 * stay < move ? "met" : "missed");
+}
+
 int main(void)
 {
     static struct work works[WORKS];
@@ -118,6 +157,8 @@ int main(void)
     printf("# calls: libsodium %s; medians of %d rounds (%d where trees of height 12 grow or a fair has 256 entries) of processor time, interleaved\n",
            sodium_version_string(), ROUNDS, ROUNDS / DEAR_EVERY);
     tell_fair_move();
+    for (h = 0; h < HEIGHTS; h++)
+        tell_stay(&keys[h]);
     race_works(works, WORKS);
     printf("# load %.1f\n", load());
     return 0;

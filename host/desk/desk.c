@@ -231,19 +231,20 @@ void desk_top_up(const char *card, uint64_t amount)
     show_done(&record);
 }
 
-/* A step that is not later is no fault: after a restart the clock may say again what it said before. */
+/* A step that is not later is no fault: after a restart, or where two timers tick, the clock may say again what it said before. Then
+ * the key stays, and its file is not written. */
 void desk_jump(uint64_t step)
 {
     uint64_t moved;
-    if (step <= desk_step())
-        return;
     do {
-        moved = kes_move(desk.table, desk.table_len, step, module_tally());
+        moved = kes_catch_up(desk.table, desk.table_len, step, module_tally());
         kes_wipe();
     } while (module_silent(kes_number(moved)));
     if (kes_number(moved) == KES_PAST_END)
         refuse("the clock is past the key's last step; make a new key and have it registered");
-    need(kes_number(moved), "kes_move");
+    need(kes_number(moved), "kes_catch_up");
+    if (kes_count(moved) == 0)
+        return;
     secret_replace(&KEY, desk.table, desk.table_len);
     show("step: %" PRIu64 "\n", step);
 }

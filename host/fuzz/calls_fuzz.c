@@ -1,5 +1,5 @@
 /* A fuzzer's target: a good call with the input laid over it, made as host/test/lib/lent.h says, over both adapters.
- * The fuzzer cannot see into the library. It sees due(), which says the number that document 01, request 3 and request 4 want, by kes.h's sizes. */
+ * The fuzzer cannot see into the library. It sees due(), which says the number that document 01 and requests 1, 3 and 4 want, by kes.h's sizes. */
 #include <string.h>
 
 #include "../test/lib/lent.h"
@@ -85,8 +85,8 @@ static void lay_good_fair(int op, uint64_t step)
 /* A good call at a step of the key. */
 static void lay_good(int op, uint64_t step)
 {
-    request.op = op, request.h1 = H1, request.h2 = H2, request.step = op == MOVE ? step + 1 : step;
-    if (op == READ_KEY || op == MOVE || op == SIGN)
+    request.op = op, request.h1 = H1, request.h2 = H2, request.step = op == MOVE || op == CATCH_UP ? step + 1 : step;
+    if (op == READ_KEY || op == MOVE || op == CATCH_UP || op == SIGN)
         lay(0, tables[step], sizeof tables[step]);
     if (op == MAKE)
         lay(0, NULL, KES_SEED_SIZE), lay(1, NULL, sizeof tables[step]);
@@ -141,7 +141,7 @@ static uint32_t due_to_move(const struct request *r)
     const uint8_t *table = r->bytes[0];
     if (r->step >= kes_steps(table[0], table[1]))
         return KES_PAST_END;
-    return r->step <= step_of(table) ? KES_NOT_LATER : KES_DONE;
+    return r->op == MOVE && r->step <= step_of(table) ? KES_NOT_LATER : KES_DONE;
 }
 
 static uint32_t due_to_sign(const struct request *r)
@@ -243,7 +243,7 @@ static uint32_t due_if_answered(const struct request *r)
         return KES_TABLE;
     if (r->op == READ_KEY)
         return r->len[1] != KES_KEY_SIZE ? KES_LENGTH : KES_DONE;
-    return r->op == MOVE ? due_to_move(r) : due_to_sign(r);
+    return r->op == SIGN ? due_to_sign(r) : due_to_move(r);
 }
 
 /* The keys of a half that is entered, where two steps part. */
@@ -255,6 +255,10 @@ static uint64_t askings(const struct request *r)
     uint64_t from = step_of(r->bytes[0]), h2 = r->bytes[0][1];
     switch (r->op) {
     case MAKE: return ((uint64_t)1 << r->h1) + ((uint64_t)1 << r->h2) + 1;
+    case CATCH_UP:
+        if (r->step <= from)
+            return 0;
+        /* fall through */
     case MOVE: return from >> h2 == r->step >> h2 ? half(from, r->step) : half(from >> h2, r->step >> h2) + ((uint64_t)1 << h2) + 1;
     case FAIR_MAKE: return 2 * r->h1 + 1;
     default: return r->op == SIGN || r->op == FAIR_SIGN;

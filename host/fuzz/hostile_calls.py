@@ -15,7 +15,7 @@ import fair
 import fair_calls
 import kes
 import sodium
-from lib.library import FAIR_MAKE, FAIR_MOVE, FAIR_SIGN, HASH, MAKE, MOST, MOVE, READ_KEY, SIGN, VERIFY, Ended, Library
+from lib.library import CATCH_UP, FAIR_MAKE, FAIR_MOVE, FAIR_SIGN, HASH, MAKE, MOST, MOVE, READ_KEY, SIGN, VERIFY, Ended, Library
 from lib.modelled import NAMES, Model, show
 from mutate import edge, spoiled
 from planted import FAIR, HOSTILE, PLANTED
@@ -69,6 +69,13 @@ def move(draw):
     return [MOVE, 0, 0, draw.choice([near, far]), [table, b"", b""]]
 
 
+def catch_up(draw):
+    """As a move; at times to a step that is not later."""
+    request = move(draw)
+    now = kes.read_header(request[4][0])[2]
+    return [CATCH_UP, 0, 0, draw.choice([request[3], request[3], now, draw.randrange(now + 1)]), request[4]]
+
+
 def sign(draw):
     table = some_table(draw)
     return [SIGN, 0, 0, 0, [table, some_message(draw), draw.randbytes(kes.signature_size(*table[:2]))]]
@@ -106,8 +113,8 @@ def fair_verify(draw):
 
 
 # in the order of their numbers: the calls, how often each is drawn, and how many buffers it is lent
-CALLS = [make, read_key, move, sign, verify, hashed, fair_calls.make, fair_calls.move, fair_sign, fair_verify]
-WEIGHTS, BUFFERS = [1, 1, 2, 2, 3, 1, 1, 1, 1, 2], [2, 2, 1, 3, 3, 2, 4, 1, 3, 3]
+CALLS = [make, read_key, move, catch_up, sign, verify, hashed, fair_calls.make, fair_calls.move, fair_sign, fair_verify]
+WEIGHTS, BUFFERS = [1, 1, 2, 2, 2, 3, 1, 1, 1, 1, 2], [2, 2, 1, 1, 3, 3, 2, 4, 1, 3, 3]
 
 
 def heights_spoiled(draw, table):
@@ -126,7 +133,7 @@ def header_spoiled(draw, request):
     table = request[4][0]
     if request[0] in (FAIR_MOVE, FAIR_SIGN):
         request[4][0] = fair_calls.header_spoiled(draw, table)
-    if request[0] not in (READ_KEY, MOVE, SIGN) or len(table) < 8:
+    if request[0] not in (READ_KEY, MOVE, CATCH_UP, SIGN) or len(table) < 8:
         return
     end = kes.steps(*[min(h, kes.TALLEST) for h in table[:2]])
     step = edge(draw, int.from_bytes(table[4:8], "little"), end) % 2**32
@@ -143,7 +150,7 @@ def number_spoiled(draw, request):
         n = (fair.read_header(request[4][0]) or (0,))[0] if request[0] == FAIR_MOVE else request[1]
         request[at] = edge(draw, request[at], n if at == 3 else fair.MOST + 1)
         return
-    found = kes.read_header(request[4][0]) if request[0] == MOVE else None
+    found = kes.read_header(request[4][0]) if request[0] in (MOVE, CATCH_UP) else None
     h1, h2, now = found or (min(request[1], kes.TALLEST), min(request[2], kes.TALLEST), request[3])
     request[at] = edge(draw, now, kes.steps(h1, h2)) if at == 3 else edge(draw, request[at], kes.TALLEST + 1)
 
@@ -165,7 +172,7 @@ def grown(request):
         return h1 + 1
     if op == MAKE and max(h1, h2) <= kes.TALLEST:
         return 2**h1 + 2**h2
-    if op == MOVE and found and found[2] < step < kes.steps(*found[:2]):
+    if op in (MOVE, CATCH_UP) and found and found[2] < step < kes.steps(*found[:2]):
         h1, h2, now = found
         if now >> h2 == step >> h2:
             return 2 ** kes.highest_difference(now, step)

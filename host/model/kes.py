@@ -1,4 +1,4 @@
-"""The evolving key, written a second time from the text of document 01 and request 4, sharing no code: the other side of every comparison.
+"""The evolving key, written a second time from the text of document 01 and requests 1 and 4, sharing no code: the other side of every comparison.
 
 Inside, a tree, a signature and a table are bytes. The calls take bytearrays and write to them as 01 says, so that what stands in
 them afterwards is part of the answer. Each rule is a method of its own: a test that plants an error overrides one.
@@ -270,6 +270,15 @@ class Scheme:
     @asking((UNANSWERED, 0))
     def move(self, table, step):
         """3, 6, 5, 9. Answers the number and the count."""
+        return self.asked_for(table, step, NOT_LATER)
+
+    @asking((UNANSWERED, 0))
+    def catch_up(self, table, step):
+        """Request 1: 3, 6, 9; a step that is not later is done with count 0, and the table stays."""
+        return self.asked_for(table, step, DONE)
+
+    def asked_for(self, table, step, early):
+        """Both, up to the number that a step gets which is not later."""
         found = read_header(table)
         if found is None:
             return TABLE, 0
@@ -277,7 +286,7 @@ class Scheme:
         if step >= steps(h1, h2):
             return PAST_END, 0
         if step <= now:
-            return NOT_LATER, 0
+            return early, 0
         same_child = now >> h2 == step >> h2
         body, count = (self.move_child if same_child else self.move_parent)(table, h1, h2, now, step)
         table[:] = header(h1, h2, step) + body

@@ -41,7 +41,8 @@ def made(h1, h2, table):
 
 def step(h1, h2, t, table):
     key = read_key(table)[1]
-    moves = [grown(SCHEME.move(table, to)) for to in (t, t, steps(h1, h2))]
+    end = steps(h1, h2)
+    moves = [grown(SCHEME.move(table, to)) for to in (t, t, end)] + [grown(SCHEME.catch_up(table, to)) for to in (t, 0, end)]
     signature = bytearray(signature_size(h1, h2))
     signed = SCHEME.sign(table, b"top-up", signature)
     tries = [(t, b"top-up"), (t + 1, b"top-up"), (t, b"refund")]
@@ -102,6 +103,13 @@ def move_at(a, b, tally):
     return f"move {a} {b} " + twice(tally, lambda: grown(SCHEME.move(table, b)), table)
 
 
+def catch_up_at(a, b, tally):
+    """A third time it stays."""
+    table = at(2, 2, a)
+    line = f"catch-up {a} {b} " + twice(tally, lambda: grown(SCHEME.catch_up(table, b)), table)
+    return f"{line} {grown(SCHEME.catch_up(table, b))} {MODULE.tally} {H(table).hex()}"
+
+
 def sign_at(tally):
     table, signature = at(2, 2, 5), bytearray(352)
     SCHEME.sign(table, b"refund", signature)
@@ -109,13 +117,15 @@ def sign_at(tally):
 
 
 def unanswered():
-    """Every place at which a make, a move or signing can fail, and the edges of the tally."""
+    """Every place at which a make, a move, a catch-up or signing can fail, and the edges of the tally."""
     for tally in [SILENT - k for k in range(10)] + EDGES:
         yield make_at(2, 2, tally)
     for a, b in NEXT_AND_ACROSS:
         for k in range(8):
             yield move_at(a, b, SILENT - k)
     yield move_at(7, 8, 2**64 - 3)
+    for k in range(8):
+        yield catch_up_at(3, 8, SILENT - k)
     for tally in (SILENT, SILENT - 1, 2**64 - 1):
         yield sign_at(tally)
     # silent at 100, after the tally has begun anew

@@ -90,7 +90,32 @@ class BodyJudged(Scheme):
         return TABLE if read_header(table) and self.module.key_of(secret) != vk else super().sign(table, message, out)
 
 
-HOSTILE = [StepCut, LengthFirst, SeedGone, NextSeedGone, BodyJudged]
+class StayRefused(Scheme):
+    """A catch-up to a step that is not later is refused with 5."""
+
+    def catch_up(self, table, step):
+        return self.move(table, step)
+
+
+class StayCounts(Scheme):
+    """A catch-up that stays counts 1."""
+
+    def catch_up(self, table, step):
+        number, count = super().catch_up(table, step)
+        return number, max(count, int(number == DONE))
+
+
+class StayWrites(Scheme):
+    """A catch-up writes the step where it stays, too."""
+
+    def catch_up(self, table, step):
+        answer = super().catch_up(table, step)
+        if answer == (DONE, 0):
+            table[4:8] = step.to_bytes(4, "little")
+        return answer
+
+
+HOSTILE = [StepCut, LengthFirst, SeedGone, NextSeedGone, BodyJudged, StayRefused, StayCounts, StayWrites]
 
 
 class TwoBytes(Fair):

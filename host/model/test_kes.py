@@ -102,6 +102,41 @@ def moves():
     return cases
 
 
+def damaged_tables(h1, h2, straight):
+    """The tables of all steps, one whose body is anything at each step, and one that is not well formed."""
+    yield from straight
+    for step in range(steps(h1, h2)):
+        yield bytearray(kes.header(h1, h2, step) + junk(table_size(h1, h2) - 8))
+    yield straight[0][:-1]
+
+
+def caught(table, *asked):
+    """The table after these catch-ups, and the last answer."""
+    later = bytearray(table)
+    for step in asked:
+        answer = MODEL.catch_up(later, step)
+    return later, answer
+
+
+def catches_up():
+    """Request 1: it moves where the move is done, and else stays; any two give one table in either order; asking twice is asking once."""
+    cases = 0
+    for h1, h2 in HEIGHTS[:4]:
+        end = steps(h1, h2)
+        for table in damaged_tables(h1, h2, [at(h1, h2, t) for t in range(end)]):
+            asked = [*range(end + 1), 2**40]
+            for a in asked:
+                once, (number, count) = caught(table, a)
+                move = MODEL.move(bytearray(table), a)[0]
+                assert number == (kes.DONE if move == kes.NOT_LATER else move)
+                assert (count == 0) == (once == table)
+                assert caught(once, a) == (once, (number, 0))
+            for a, b in itertools.combinations(asked, 2):
+                assert caught(table, a, b)[0] == caught(table, b, a)[0]
+                cases += 1
+    return cases
+
+
 def signatures():
     """A signature is accepted at its step alone."""
     cases = 0
@@ -229,5 +264,5 @@ def errors():
     return len(PLANTED)
 
 
-for group in [sums, trees, any_bytes, moves, signatures, damaged, knows, refusals, edges, errors]:
+for group in [sums, trees, any_bytes, moves, catches_up, signatures, damaged, knows, refusals, edges, errors]:
     print("model: %s: %d cases" % (group.__name__, group()))

@@ -54,7 +54,8 @@ def keys():
         yield Asking(f"sign {h1} {h2}", 1, "sign", table_at(h1, h2, steps(h1, h2) - 1), b"text", b"\5" * signature_size(h1, h2))
     for h1, h2 in HEIGHTS:
         for a, b in itertools.combinations(range(steps(h1, h2)), 2):
-            yield Asking(f"move {h1} {h2} {a} {b}", move_most(h1, h2, a, b), "move", table_at(h1, h2, a), b)
+            for call in ("move", "catch_up"):
+                yield Asking(f"{call} {h1} {h2} {a} {b}", move_most(h1, h2, a, b), call, table_at(h1, h2, a), b)
 
 
 def fairs():

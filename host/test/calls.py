@@ -7,7 +7,7 @@ import tempfile
 import time
 
 sys.dont_write_bytecode = True
-from lib.library import FAIR_MAKE, FAIR_MOVE, FAIR_SIGN, FAIR_VERIFY, HASH, MAKE, MOVE, READ_KEY, SIGN, VERIFY, Library
+from lib.library import CATCH_UP, FAIR_MAKE, FAIR_MOVE, FAIR_SIGN, FAIR_VERIFY, HASH, MAKE, MOVE, READ_KEY, SIGN, VERIFY, Library
 from lib.modelled import NAMES, Model, fair, kes, show
 
 
@@ -68,11 +68,12 @@ class Desk(Drawing):
         return READ_KEY, 0, 0, 0, [self.odd(self.table), self.odd(bytes(32)), b""]
 
     def move(self):
-        h1, h2 = self.heights
+        """By a move, or by a catch-up."""
+        op, (h1, h2) = self.draw.choice([MOVE, CATCH_UP]), self.heights
         if self.draw.random() < 0.1 and max(h1, h2) < 3:
             body = self.draw.randbytes(kes.table_size(h1, h2) - 8)
-            return MOVE, 0, 0, self.step(), [kes.header(h1, h2, self.draw.randrange(kes.steps(h1, h2))) + body, b"", b""], self.module()
-        request = MOVE, 0, 0, self.step(), [self.odd(self.table), b"", b""], self.module()
+            return op, 0, 0, self.step(), [kes.header(h1, h2, self.draw.randrange(kes.steps(h1, h2))) + body, b"", b""], self.module()
+        request = op, 0, 0, self.step(), [self.odd(self.table), b"", b""], self.module()
         answer, _, (table, _, _) = self.model.call(*request)
         if answer & 0xFFFFFFFF == 0 and request[4][0] == self.table:
             self.table = table
@@ -103,7 +104,7 @@ class Desk(Drawing):
     def next(self):
         if not self.table:
             return self.make()
-        return self.draw.choice([self.make, self.read_key, self.move, self.move, self.move, self.sign, self.sign, self.verify, self.verify, self.hash])()
+        return self.draw.choice([self.make, self.read_key, self.move, self.move, self.move, self.move, self.sign, self.sign, self.verify, self.verify, self.hash])()
 
 
 class Fair(Drawing):

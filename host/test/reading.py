@@ -16,6 +16,7 @@ LIST = {
     "the journal, in pieces": ["ledger/Feeding"],
 }
 BEYOND = {
+    "catching up": ["rules/CatchUp"],
     "the fair-day cache": ["fair/Day", "fair/Listed", "edge/EdgeFair"],
     "one signature, one step": ["reuse/OneStep", "reuse/Singly"],
     "a header in full": ["headers/InFull"],

@@ -1,5 +1,5 @@
 #!/usr/bin/env python3
-"""A module that drops out, at every place at which a call can fail: each make and move at heights 2 and 2, signing, a fair's make of three
+"""A module that drops out, at every place at which a call can fail: each make, move and catch-up at heights 2 and 2, signing, a fair's make of three
 entries and its signing, from tallies near 0, 2^32 and 2^64. Each time the call is made again with the tally left. Every answer, every
 buffer and the tally are the independent model's. And nothing but crate ed25519 stores to a tally. Needs desk/build before."""
 import itertools
@@ -9,7 +9,7 @@ import sys
 import tempfile
 
 sys.dont_write_bytecode = True
-from lib.library import FAIR_MAKE, FAIR_SIGN, MAKE, MOVE, SIGN, Library
+from lib.library import CATCH_UP, FAIR_MAKE, FAIR_SIGN, MAKE, MOVE, SIGN, Library
 from lib.modelled import NAMES, Model, fair, kes, show, sodium
 
 ROOT = pathlib.Path(__file__).resolve().parents[2]
@@ -27,6 +27,7 @@ def askings(model):
     yield MAKE, 2, 2, 0, [master, nines * 712]
     for a, b in itertools.combinations(range(16), 2):
         yield MOVE, 0, 0, b, [tables[a]]
+        yield CATCH_UP, 0, 0, b, [tables[a]]
     yield SIGN, 0, 0, 0, [tables[9], b"a top-up", nines * 352]
     yield FAIR_MAKE, 3, 0, 0, [master, seeds, nines * fair.cache_size(3), nines * 32]
     yield FAIR_SIGN, 0, 0, 0, [cache, b"a sale", nines * fair.SIGNATURE]

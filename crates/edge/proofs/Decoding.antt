@@ -1,5 +1,5 @@
--- What a C caller reads from the word that make and move answer: its low half is the number, its high half the count; and where the number is 0, the count
--- is not.
+-- What a C caller reads from the word that make, move and catch-up answer: its low half is the number, its high half the count. Where the number of a make or a
+-- move is 0, the count is not; a catch-up whose word is 0 has stayed.
 use mathlib.Core.Path.{_≡_, refl, sym, ap, _∙_}
 use mathlib.Core.List.{List}
 use Prim.Native.Nat.{ℕ, _+_, _*_, _/_, _%_, _≤_, _<_}
@@ -9,12 +9,13 @@ use Rattle.refusal.specs.Numbers.{numberOf}
 use Rattle.refusal.specs.declared.Refusal.{Refusal}
 use Rattle.refusal.specs.declared.Refusal.the-variants.{Height, SeedOrKey, Table, Length, NotLater, PastEnd, TooLong, Entries, Unanswered}
 use Rattle.rules.specs.Answers.{Told, grownTold}
-use Rattle.rules.specs.Calls.{makeTallied, moveTallied}
+use Rattle.rules.specs.Calls.{makeTallied, moveTallied, catchTallied}
 use Rattle.rules.specs.declared.Grown.{Grown}
 use Rattle.rules.specs.declared.Grown.the-variants.{Done, Refused}
 use Rattle.rules.proofs.Positive.{make-positive, move-positive}
 use Rattle.rules.proofs.Unanswered.{make-tallied-done, move-tallied-done}
-use Rattle.edge.specs.Edge.{toldWord, EdgeMakes, EdgeMoves}
+use Rattle.rules.proofs.CatchingUp.{catch-tallied-done, catch-tallied-left}
+use Rattle.edge.specs.Edge.{toldWord, EdgeMakes, EdgeMoves, EdgeCatchesUp}
 
 -- no refusal has the number 0, and all are small
 in-range : (why : Refusal) → (0 < numberOf why) × (numberOf why ≤ 9)
@@ -58,3 +59,15 @@ make-counts h1 h2 s d t m z =
 
 pub move-counts : (d : List ℕ) (b t : ℕ) {w : ℕ} {d′ : List ℕ} {t′ : ℕ} → EdgeMoves d b t w d′ t′ → w % 0x1_0000_0000 ≡ 0 → 0 < w / 0x1_0000_0000
 move-counts d b t m z = done-counts (moveTallied d b t .answer) (m .answers) (λ n e. move-positive d b (move-tallied-done d b t e)) z
+
+-- the whole word 0
+told-0 : (a : Grown) → grownTold a .number ≡ 0 → grownTold a .count ≡ 0 → a ≡ Done 0
+told-0 (Done n) z k = ap Done k
+told-0 (Refused why) z k = let r = in-range why .0 in absurd (let q : ⊥ = omega arith in q)
+
+pub catch-word-0 : (d : List ℕ) (b t : ℕ) {w : ℕ} {d′ : List ℕ} {t′ : ℕ} → EdgeCatchesUp d b t w d′ t′ → w ≡ 0 → (d′ ≡ d) × (t′ ≡ t)
+catch-word-0 d b t c z =
+    let a = catchTallied d b t .answer in
+    let e : toldWord (grownTold a) ≡ 0 = sym (c .answers) ∙ z in
+    let k = catch-tallied-left d b t (told-0 a (omega arith) (omega arith)) in
+    (c .leaves ∙ k .0, c .tallies ∙ k .1)

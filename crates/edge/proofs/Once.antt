@@ -2,7 +2,7 @@
 use mathlib.Core.Path.{_≡_, sym, _∙_}
 use mathlib.Core.List.{List}
 use Prim.Native.Nat.{ℕ}
-use Rattle.edge.specs.Edge.{EdgeMakes, EdgeReads, EdgeMoves, EdgeSigns, EdgeVerifies, EdgeHashes}
+use Rattle.edge.specs.Edge.{EdgeMakes, EdgeReads, EdgeMoves, EdgeCatchesUp, EdgeSigns, EdgeVerifies, EdgeHashes}
 use Rattle.edge.specs.EdgeFair.{EdgeFairMakes, EdgeFairMoves, EdgeFairSigns, EdgeFairVerifies}
 
 -- two values that are both a third
@@ -24,6 +24,10 @@ key-once d out x y = (joined (x .numbers) (y .numbers), joined (x .keeps) (y .ke
 pub move-once : (d : List ℕ) (step t : ℕ) {a b : ℕ} {d₁ d₂ : List ℕ} {t₁ t₂ : ℕ} → EdgeMoves d step t a d₁ t₁ → EdgeMoves d step t b d₂ t₂
     → (a ≡ b) × (d₁ ≡ d₂) × (t₁ ≡ t₂)
 move-once d step t x y = (joined (x .answers) (y .answers), joined (x .leaves) (y .leaves), joined (x .tallies) (y .tallies))
+
+pub catch-once : (d : List ℕ) (step t : ℕ) {a b : ℕ} {d₁ d₂ : List ℕ} {t₁ t₂ : ℕ} → EdgeCatchesUp d step t a d₁ t₁ → EdgeCatchesUp d step t b d₂ t₂
+    → (a ≡ b) × (d₁ ≡ d₂) × (t₁ ≡ t₂)
+catch-once d step t x y = (joined (x .answers) (y .answers), joined (x .leaves) (y .leaves), joined (x .tallies) (y .tallies))
 
 pub sign-once : (d m out : List ℕ) (t : ℕ) {a b : ℕ} {d₁ d₂ m₁ m₂ o₁ o₂ : List ℕ} {t₁ t₂ : ℕ} → EdgeSigns d m out t a d₁ m₁ o₁ t₁
     → EdgeSigns d m out t b d₂ m₂ o₂ t₂ → (a ≡ b) × (d₁ ≡ d₂) × (m₁ ≡ m₂) × (o₁ ≡ o₂) × (t₁ ≡ t₂)

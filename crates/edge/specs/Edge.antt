@@ -5,10 +5,10 @@ use mathlib.Core.List.{List}
 use Rattle.blake2b.specs.Calls as blake2b
 use Rattle.refusal.specs.Numbers.{answerNumber}
 use Rattle.rules.specs.Answers.{Told, grownTold, verdictNumber}
-use Rattle.rules.specs.Calls.{makeOutcome, makeTallied, keyOutcome, moveOutcome, moveTallied, signOutcome, signTallied, verifyOutcome}
+use Rattle.rules.specs.Calls.{makeOutcome, makeTallied, keyOutcome, moveOutcome, moveTallied, catchOutcome, catchTallied, signOutcome, signTallied, verifyOutcome}
 use Rattle.ed25519.specs.Tally.{Run, asked}
 
--- make and move answer number + 2^32 * count
+-- make, move and catch-up answer number + 2^32 * count
 abbrev pub toldWord : Told → ℕ
 toldWord x = x .number + 0x1_0000_0000 * x .count
 
@@ -27,6 +27,11 @@ pub record EdgeMoves (d : List ℕ) (b t answer : ℕ) (d′ : List ℕ) (t′ :
   pub answers : answer ≡ toldWord (grownTold (moveTallied d b t .answer))
   pub leaves : d′ ≡ moveTallied d b t .table
   pub tallies : t′ ≡ asked (moveOutcome d b .calls) t .tally
+
+pub record EdgeCatchesUp (d : List ℕ) (b t answer : ℕ) (d′ : List ℕ) (t′ : ℕ) : Type 0 where
+  pub answers : answer ≡ toldWord (grownTold (catchTallied d b t .answer))
+  pub leaves : d′ ≡ catchTallied d b t .table
+  pub tallies : t′ ≡ asked (catchOutcome d b .calls) t .tally
 
 pub record EdgeSigns (d m out : List ℕ) (t number : ℕ) (d′ m′ out′ : List ℕ) (t′ : ℕ) : Type 0 where
   pub numbers : number ≡ answerNumber (signTallied d m out t .answer)

@@ -1,12 +1,12 @@
 // The C edge: each answer as its number, on plain numbers and byte slices. include/kes.h declares these functions.
-ghost use Rattle.edge.specs.Edge.{EdgeHashes, EdgeMakes, EdgeMoves, EdgeReads, EdgeSigns, EdgeVerifies};
+ghost use Rattle.edge.specs.Edge.{EdgeCatchesUp, EdgeHashes, EdgeMakes, EdgeMoves, EdgeReads, EdgeSigns, EdgeVerifies};
 
 mod fair_day;
 mod numbers;
 
 use crate::numbers::answered;
 use crate::numbers::judged;
-use key::Grown;
+use crate::numbers::told;
 
 #[no_mangle]
 pub extern "C" fn kes_make(
@@ -18,10 +18,7 @@ pub extern "C" fn kes_make(
 ) -> u64
     ensures { λ r. ⌜ EdgeMakes h1 h2 (now (seed .entry)) (now (table .entry)) (now (tally .entry)) r (now (seed .exit)) (now (table .exit)) (now (tally .exit)) ⌝ }
 {
-    match key::make(h1, h2, seed, table, tally) {
-        Grown::Done(count) => count * 0x1_0000_0000,
-        Grown::Refused(why) => refusal::number(why) as u64,
-    }
+    told(key::make(h1, h2, seed, table, tally))
 }
 
 #[no_mangle]
@@ -35,10 +32,14 @@ pub extern "C" fn kes_read_key(table: &[u8], key: &mut [u8]) -> u32
 pub extern "C" fn kes_move(table: &mut [u8], step: u64, tally: &mut u64) -> u64
     ensures { λ r. ⌜ EdgeMoves (now (table .entry)) step (now (tally .entry)) r (now (table .exit)) (now (tally .exit)) ⌝ }
 {
-    match key::move_to(table, step, tally) {
-        Grown::Done(count) => count * 0x1_0000_0000,
-        Grown::Refused(why) => refusal::number(why) as u64,
-    }
+    told(key::move_to(table, step, tally))
+}
+
+#[no_mangle]
+pub extern "C" fn kes_catch_up(table: &mut [u8], step: u64, tally: &mut u64) -> u64
+    ensures { λ r. ⌜ EdgeCatchesUp (now (table .entry)) step (now (tally .entry)) r (now (table .exit)) (now (tally .exit)) ⌝ }
+{
+    told(key::catch_up(table, step, tally))
 }
 
 #[no_mangle]

@@ -26,6 +26,7 @@ use Rattle.key.specs.Inside.{grownOf, answerOf}
 use Rattle.rules.specs.Calls.{tooHigh, makeWork, Makes, MakeOutcome, notMade, made, makeOutcome, makeTallied}
 use Rattle.rules.specs.Calls.{Reads, KeyOutcome, notRead, keyRead, keyUnder, keyOutcome}
 use Rattle.rules.specs.Calls.{moveWork, Moves, MoveOutcome, notMoved, moved, moveUnder, moveOutcome, moveTallied}
+use Rattle.rules.specs.Calls.{CatchesUp, stayed, catchOutcome, catchTallied}
 use Rattle.rules.specs.Calls.{Signs, SignOutcome, notSigned, signed, signUnder, signOutcome, signTallied}
 use Rattle.rules.specs.Calls.{Verifies, verdictOf, verifyOutcome}
 use Rattle.rules.specs.declared.Header.{Header}
@@ -37,6 +38,7 @@ use Rattle.refusal.specs.declared.Answer.{Answer}
 use Rattle.refusal.specs.declared.Answer.the-variants as answer
 use Rattle.rules.specs.declared.Verdict.{Verdict}
 use Rattle.rules.specs.declared.Verdict.the-variants as verdict
+use Rattle.rules.proofs.Headers.{Whole, whole}
 use Rattle.part.specs.Inside.{Commits}
 use Rattle.part.proofs.Copies.{count-given, none-given}
 
@@ -170,6 +172,35 @@ module _ (d : List ℕ) (b t : ℕ) where
             let n : k ≡ moveWork x (bodyIn d) b .count = cc ek in
             let ey : ys ≡ moveWork x (bodyIn d) b .body = work .leaves .is ∙ rw y in
             moves (moved x b (moveWork x (bodyIn d) b)) moves-on (rw (y, n)) (ed ∙ rw (y, drop-back d ys headerSize l, ey)) (work .tallies)
+
+-- catch up, under the tally t
+module _ (d : List ℕ) (b t : ℕ) where
+  -- what makes no module call leaves the tally
+  catches : (o : MoveOutcome) {a : Grown} → o .calls ≡ 0 → o .table ≡ d → catchOutcome d b ≡ o → a ≡ o .answer → CatchesUp d b t a d t
+  unfolding asked catchTallied
+  catches o z k e ea = record { answers = ea ∙ rw (e, z); leaves = sym k ∙ rw (e, z); tallies = rw (e, z) }
+
+  pub catch-refused : {f : Found} {why : Refusal} {a : Grown} → f ≡ headerOf d → f ≡ found.Refused why → a ≡ grownOf f → CatchesUp d b t a d t
+  unfolding catchOutcome moveUnder
+  catch-refused {why = why} e r ea = catches (notMoved why d) refl refl (rw (← e, r)) (ea ∙ ap grownOf r)
+
+  module _ {f : Found} {x : Header} (e : f ≡ headerOf d) (g : f ≡ found.Good x) where
+    -- a step that is not later lies before the end
+    pub catch-stays : b ≤ x .step → CatchesUp d b t (grown.Done 0) d t
+    unfolding catchOutcome moveUnder
+    catch-stays l =
+        let w = whole d (sym e ∙ g) in
+        let u : b < steps (x .h1) (x .h2) = let s = w .soon in omega arith in
+        catches (stayed d) refl refl (rw (← e, g, lt-leb (steps (x .h1) (x .h2)) b u, le-leb b (x .step) l)) refl
+
+    -- and past it the two calls are one
+    same-call : x .step < b → moveOutcome d b ≡ catchOutcome d b
+    unfolding catchOutcome moveOutcome moveUnder
+    same-call l = rw (← e, g, lt-leb b (x .step) l)
+
+    pub catch-moves : {a : Grown} {d′ : List ℕ} {t′ : ℕ} → x .step < b → Moves d b t a d′ t′ → CatchesUp d b t a d′ t′
+    unfolding catchTallied moveTallied
+    catch-moves l m = let e′ = same-call l in record { answers = m .answers ∙ rw e′; leaves = m .leaves ∙ rw e′; tallies = m .tallies ∙ rw e′ }
 
 -- sign, under the tally t
 module _ (d m out : List ℕ) (t : ℕ) where

@@ -1,5 +1,5 @@
-// The five calls. Each checks in document 01's order, and writes nothing before all its checks have passed.
-ghost use Rattle.rules.specs.Calls.{Makes, Reads, Moves, Signs, Verifies};
+// The six calls. Each checks in document 01's order, and writes nothing before all its checks have passed.
+ghost use Rattle.rules.specs.Calls.{CatchesUp, Makes, Moves, Reads, Signs, Verifies};
 use crate::body::accepted;
 use crate::body::make_body;
 use crate::body::move_body;
@@ -88,6 +88,22 @@ pub fn move_to(table: &mut [u8], step: u64, tally: &mut u64) -> Grown
     let h2 = header.h2;
     put_header(table, Header { h1, h2, step });
     Grown::Done(count as u64)
+}
+
+// Moves the key in table to this step if that is later; else the table stays, and that is no fault.
+pub fn catch_up(table: &mut [u8], step: u64, tally: &mut u64) -> Grown
+    ensures { λ r. ⌜ CatchesUp (now (table .entry)) step (now (tally .entry)) r (now (table .exit)) (now (tally .exit)) ⌝ }
+{
+    let found = read_header(table);
+    let Found::Good(header) = found else {
+        return grown_of(found);
+    };
+    let present = header.step as u64;
+    if step <= present {
+        let count = 0;
+        return Grown::Done(count);
+    }
+    move_to(table, step, tally)
 }
 
 // Writes the signature over message by the key in table, at its step.

@@ -1,5 +1,5 @@
-// The five calls under the stand-in, from the seed 1, 2, .., 32: a day of single steps at four pairs of heights, with refused moves between; all pairs
-// of jumps; document 01's edges; and every place at which a module call can fail.
+// The six calls under the stand-in, from the seed 1, 2, .., 32: a day of single steps at four pairs of heights, with refused moves and catch-ups that stay
+// between; all pairs of jumps; document 01's edges; and every place at which a module call can fail.
 ghost use mathlib.Core.Path.{_≡_};
 ghost use Prim.Native.Nat.{_≤_};
 ghost use lib.ListN.{length};
@@ -52,6 +52,11 @@ fn move_to(table: &mut [u8], step: u64) -> Grown {
     key::move_to(table, step, &mut tally)
 }
 
+fn catch_up(table: &mut [u8], step: u64) -> Grown {
+    let mut tally = ANSWERED;
+    key::catch_up(table, step, &mut tally)
+}
+
 fn sign(table: &[u8], message: &[u8], signature: &mut [u8]) -> Answer {
     let mut tally = ANSWERED;
     key::sign(table, message, signature, &mut tally)
@@ -86,13 +91,26 @@ fn verdicts(h1: u64, h2: u64, t: u64, table: &[u8], signature: &[u8]) {
     show_verdict(key::verify(h1, h2, &key, t, b"refund", signature));
 }
 
-// The line of a step: a move to it, a second one and one past the end, which are refused, then the table, a signature and its verdicts.
-fn step(h1: u64, h2: u64, t: u64, end: u64, table: &mut [u8], signature: &mut [u8]) {
-    io::write_all(STDOUT_FILENO, b"step");
-    show_number(t);
+// A move to a step, a second one and one past the end, which are refused.
+fn moves(t: u64, end: u64, table: &mut [u8]) {
     show_grown(move_to(table, t));
     show_grown(move_to(table, t));
     show_grown(move_to(table, end));
+}
+
+// Two catch-ups that stay, and one past the end.
+fn catch_ups(t: u64, end: u64, table: &mut [u8]) {
+    show_grown(catch_up(table, t));
+    show_grown(catch_up(table, 0));
+    show_grown(catch_up(table, end));
+}
+
+// The line of a step: moves and catch-ups, then the table, a signature and its verdicts.
+fn step(h1: u64, h2: u64, t: u64, end: u64, table: &mut [u8], signature: &mut [u8]) {
+    io::write_all(STDOUT_FILENO, b"step");
+    show_number(t);
+    moves(t, end, table);
+    catch_ups(t, end, table);
     show_field(digest(table));
     show_answer(sign(table, b"top-up", signature));
     show_field(digest(signature));
@@ -297,6 +315,35 @@ fn all_failing_moves(table: &mut [u8]) {
     move_from(7, 8, 18446744073709551613, table);
 }
 
+fn show_catch_up(table: &mut [u8], step: u64, tally: &mut u64) {
+    show_grown(key::catch_up(table, step, tally));
+    show_number(*tally);
+    show_field(digest(table));
+}
+
+// The line of a catch-up from step a to step b, from this tally on, and of two more with the tally left: the last of them stays.
+fn catch_up_from(a: u64, b: u64, first: u64, table: &mut [u8]) {
+    at_step(a, table);
+    io::write_all(STDOUT_FILENO, b"catch-up");
+    show_number(a);
+    show_number(b);
+    show_number(first);
+    let mut tally = first;
+    show_catch_up(table, b, &mut tally);
+    show_catch_up(table, b, &mut tally);
+    show_catch_up(table, b, &mut tally);
+    end_line();
+}
+
+// Each of the calls of a catch-up fails in its turn, and at last none.
+fn failing_catch_ups(table: &mut [u8]) {
+    let mut k: u64 = 0;
+    while k < 8 {
+        catch_up_from(3, 8, SILENT - k, table);
+        k += 1;
+    }
+}
+
 fn show_sign(table: &[u8], signature: &mut [u8], tally: &mut u64) {
     show_answer(key::sign(table, b"top-up", signature, tally));
     show_number(*tally);
@@ -325,6 +372,7 @@ fn unanswered(table: &mut [u8], signature: &mut [u8]) {
     failing_makes(table);
     edge_makes(table);
     all_failing_moves(table);
+    failing_catch_ups(table);
     failing_signs(table, signature);
 }
 

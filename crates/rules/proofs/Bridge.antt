@@ -37,7 +37,7 @@ module _ (h1 h2 t : ℕ) (x : List ℕ) (lx : length x ≡ partSize h1 (h2 ∷ [
   unfolding headerBytes fourIn
   formed = record { long = omega arith; low1 = l1; low2 = l2; two = refl; three = refl; exact = omega arith; soon = rw (four-back t small) u }
 
-  header-found : headerOf (headerBytes (header h1 h2 t) ++ x) ≡ Good (header h1 h2 t)
+  pub header-found : headerOf (headerBytes (header h1 h2 t) ++ x) ≡ Good (header h1 h2 t)
   header-found = good (headerBytes (header h1 h2 t) ++ x) formed ∙ ap Good (header-back h1 h2 t x small)
 
 body-at : (s : List ℕ) (h1 h2 t : ℕ) → bodyIn (tableAt s h1 h2 t) ≡ partAt s h1 (h2 ∷ []) t

@@ -25,6 +25,9 @@ use Rattle.rules.specs.Calls.{
   moveUnder,
   moveOutcome,
   moveTallied,
+  CatchesUp,
+  catchOutcome,
+  catchTallied,
   Signs,
   signUnder,
   signOutcome,
@@ -97,6 +100,19 @@ key-3-4 r = r .answers
 pub move-3-6 : {a : Grown} {d : List ℕ} {t t′ : ℕ} → Moves [] 16777216 t a d t′ → a ≡ grown.Refused Table
 unfolding asked moveTallied moveOutcome moveUnder headerOf wellFormed
 move-3-6 m = m .answers
+
+-- catch up: 3 before 6. A step that is not later is no refusal, counts nothing, leaves the table and passes no number; a later one is moved to.
+pub catch-3-6 : {a : Grown} {d : List ℕ} {t t′ : ℕ} → CatchesUp [] 16777216 t a d t′ → a ≡ grown.Refused Table
+unfolding asked catchTallied catchOutcome moveUnder headerOf wellFormed
+catch-3-6 c = c .answers
+
+pub catch-stays : (a : Grown) (d : List ℕ) (t t′ : ℕ) → CatchesUp (plain 1 7) 0 t a d t′ → (a ≡ grown.Done 0) × (d ≡ plain 1 7) × (t′ ≡ t)
+unfolding plain headerBytes asked catchTallied catchOutcome moveUnder headerOf wellFormed headerIn fourIn
+catch-stays a d t t′ c = (c .answers, c .leaves, c .tallies)
+
+pub catch-not-idle : (a : Grown) (t t′ : ℕ) → asked 3 t .given ≡ true → CatchesUp (plain 0 7) 1 t a (plain 0 7) t′ → ⊥
+unfolding plain headerBytes catchTallied callsPart callsNewPart callsMove catchOutcome moveUnder headerOf wellFormed headerIn fourIn moveWork
+catch-not-idle a t t′ y c = let e : _≡_ {A = ℕ} 0 1 = ap (λ (d : List ℕ). getD d 4 0) (rw y at (c .leaves)) in omega arith
 
 -- sign: 3 before 7, 7 before 4
 module _ {a : Answer} {d m out : List ℕ} {t t′ : ℕ} where

@@ -13,7 +13,7 @@ use Rattle.tree.specs.Tree.{treeAt}
 use Rattle.tree.specs.Sum.{sumSignature}
 use Rattle.tree.proofs.Paths.{pathOf}
 use Rattle.tree.specs.Knows.{leafWord, Starts, headOr, tailOf}
-use Rattle.tree.proofs.Laws.{sum-is}
+use Rattle.tree.proofs.Laws.{tree-length, sum-is}
 use Rattle.tree.proofs.Holding.{starts-itself}
 use Rattle.rules.specs.Part.{total, outer, inner, chain, partRoot, partAt, sumsIn}
 use Rattle.rules.specs.Knows.{rights, inTop, stored, inBelow, presentAt, signing, signers, StartsOne, GrowsStep}
@@ -77,11 +77,13 @@ signing-signs (g ∷ hs) s h t m l =
     let n : ℕ = total g hs in
     let l0 = hash-length (0 ∷ s) in
     let r = chain (right s) (outer n t) in
+    let p = treeAt (left s) h (outer n t) in
+    let lp = tree-length h (left s) (outer n t) l0 in
     let root = partRoot (left r) g hs in
     let below = partAt (left r) g hs (inner n t) in
     rw (
-      seam-bond (left s) h (outer n t) l0 r root below,
-      seam-below (left s) h (outer n t) l0 r root below,
+      seam-bond p h (outer n t) lp r root below,
+      seam-below p h (outer n t) lp r root below,
       sum-is h (left s) (outer n t) l0 root,
       signing-signs hs (left r) g (inner n t) m (hash-length (0 ∷ r)),
     )

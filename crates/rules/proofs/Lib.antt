@@ -8,11 +8,14 @@ pub mod Counts
 pub mod Small
 pub mod Positive
 pub mod Unanswered
+pub mod CatchingUp
 pub mod Excludes
 pub mod Verdicts
 pub mod Machine
 pub mod Parts
+pub mod Again
 pub mod Bridge
+pub mod EitherOrder
 pub mod Straight
 pub mod Holding
 pub mod Growing

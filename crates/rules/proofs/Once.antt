@@ -1,4 +1,4 @@
--- For each call: no second outcome fits its contract, and the tally at entry fixes the one at exit; the outcome is one of those that
+-- For each call of document 01: no second outcome fits its contract, and the tally at entry fixes the one at exit; the outcome is one of those that
 -- document 01 and request 4 list for the call; and their numbers.
 use mathlib.Core.Path.{_≡_, refl, sym, _∙_}
 use mathlib.Core.List.{List, [], _∷_, map}
@@ -10,7 +10,7 @@ use Rattle.fields.specs.Tests.{pick}
 use Rattle.fields.specs.Lists.{Among, here, there, beforeLast}
 use Rattle.fields.proofs.Lists.{either, with-silence}
 use Rattle.blake2b.specs.Calls.{limit}
-use Rattle.refusal.specs.declared.Refusal.the-variants.{Table, Unanswered}
+use Rattle.refusal.specs.declared.Refusal.the-variants.{Table, NotLater, Unanswered}
 use Rattle.ed25519.specs.Tally.{Run, asked}
 use Rattle.rules.specs.Part.{partVerdict}
 use Rattle.rules.specs.Table.{steps, tableSize, signatureSize, headerIn, wellFormed, headerOf}
@@ -80,7 +80,7 @@ pub move-listed : (d : List ℕ) (b : ℕ) → Among (moveOutcome d b) (moveList
 unfolding moveOutcome moveUnder headerOf
 move-listed d b = go (wellFormed d)
   where
-    go : (f : Bool) → Among (moveUnder (pick f (Good (headerIn d)) (Refused Table)) d b) (moveListed d b)
+    go : (f : Bool) → Among (moveUnder (notMoved NotLater d) (pick f (Good (headerIn d)) (Refused Table)) d b) (moveListed d b)
     go true =
         let x = headerIn d in
         either (leb (steps (x .h1) (x .h2)) b) (there (here refl)) (either (leb b (x .step)) (there (there (here refl))) (there (there (there (here refl)))))

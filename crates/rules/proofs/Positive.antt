@@ -73,7 +73,7 @@ pub move-positive : (d : List ℕ) (b : ℕ) {n : ℕ} → moveOutcome d b .answ
 unfolding moveOutcome moveUnder moveWork
 move-positive d b {n} = go (headerOf d)
   where
-    go : (f : Found) → moveUnder f d b .answer ≡ Done n → 0 < n
+    go : (f : Found) → moveUnder (notMoved NotLater d) f d b .answer ≡ Done n → 0 < n
     go (found.Refused why) t = absurd (grown-not (sym t))
     go (found.Good x) t = under (leb (steps (x .h1) (x .h2)) b) (leb b (x .step)) refl refl t
       where

@@ -45,7 +45,7 @@ pub move-small : (d : List ℕ) (b : ℕ) {n : ℕ} → moveOutcome d b .answer 
 unfolding moveOutcome moveUnder moveWork
 move-small d b {n} = go (headerOf d) refl
   where
-    go : (f : Found) → headerOf d ≡ f → moveUnder f d b .answer ≡ Done n → n < 0x1_0000_0000
+    go : (f : Found) → headerOf d ≡ f → moveUnder (notMoved NotLater d) f d b .answer ≡ Done n → n < 0x1_0000_0000
     go (found.Refused why) e t = absurd (grown-not (sym t))
     go (found.Good x) e t = under (leb (steps (x .h1) (x .h2)) b) (leb b (x .step)) t
       where

@@ -41,7 +41,7 @@ heard given true e n = refl
 heard given false e n = absurd (n e)
 
 -- what is done under a tally is done with every answer given
-done-heard : {O : Type 0} (says : O → Grown) (x y : O) {n : ℕ} (g : Bool) → (says y ≡ grown.Done n → ⊥) → says (pick g x y) ≡ grown.Done n → says x ≡ grown.Done n
+pub done-heard : {O : Type 0} (says : O → Grown) (x y : O) {n : ℕ} (g : Bool) → (says y ≡ grown.Done n → ⊥) → says (pick g x y) ≡ grown.Done n → says x ≡ grown.Done n
 done-heard says x y true f e = e
 done-heard says x y false f e = absurd (f e)
 
@@ -108,10 +108,10 @@ module _ (h1 h2 : ℕ) (s d : List ℕ) where
     make-tally-left {why} e n = m .tallies ∙ rw (make-refused why (sym (make-given n .0) ∙ e))
 
 -- move: at most the count, and one for each root signed
-abbrev moveCount : List ℕ → ℕ → ℕ
+abbrev pub moveCount : List ℕ → ℕ → ℕ
 moveCount d b = let x = headerIn d in countPart (x .h1) (x .h2 ∷ []) (x .step) b
 
-abbrev moveRoots : List ℕ → ℕ → ℕ
+abbrev pub moveRoots : List ℕ → ℕ → ℕ
 moveRoots d b = let x = headerIn d in rootsPart (x .h1) (x .h2 ∷ []) (x .step) b
 
 one-root : (h1 h2 a b : ℕ) → rootsPart h1 (h2 ∷ []) a b ≤ 1

@@ -1,6 +1,6 @@
--- The five calls, each by one definition from its inputs to its whole outcome: the answer and the end value of every slice lent, on all inputs. The order of
--- refusals is that of document 01, "Numbers a caller can get". Each contract says that answer and end values are the outcome's. Request 4: of make, move and
--- sign the same under a tally, with 9 after all checks.
+-- The six calls, document 01's five and request 1's catch-up, each by one definition from its inputs to its whole outcome: the answer and the end value of
+-- every slice lent, on all inputs. The order of refusals is that of document 01, "Numbers a caller can get". Each contract says that answer and end values are
+-- the outcome's. Request 4: of make, move, catch-up and sign the same under a tally, with 9 after all checks.
 use mathlib.Core.Path.{_≡_}
 use mathlib.Core.List.{List, [], _∷_, _++_}
 use mathlib.Core.Bool.{Bool, _||_}
@@ -95,7 +95,7 @@ pub record Reads (d out : List ℕ) (a : Answer) (d′ out′ : List ℕ) : Type
   pub keeps : d′ ≡ keyOutcome d out .table
   pub leaves : out′ ≡ keyOutcome d out .out
 
--- move: 3, 6, 5, 9
+-- move and catch-up: 3, 6, and then what each gives
 pub record MoveOutcome : Type 0 where
   pub calls : ℕ
   pub answer : Grown
@@ -107,23 +107,43 @@ notMoved why d = record { calls = 0; answer = grown.Refused why; table = d }
 abbrev pub moved : Header → ℕ → Work → MoveOutcome
 moved x b w = record { calls = w .calls; answer = grown.Done (w .count); table = headerBytes (atStep x b) ++ w .body }
 
-unfoldable pub moveUnder : Found → List ℕ → ℕ → MoveOutcome
-moveUnder (found.Refused why) d b = notMoved why d
-moveUnder (found.Good x) d b =
+-- both, up to `early`, which is what a step gets that is not later
+unfoldable pub moveUnder : MoveOutcome → Found → List ℕ → ℕ → MoveOutcome
+moveUnder early (found.Refused why) d b = notMoved why d
+moveUnder early (found.Good x) d b =
     pick (leb (steps (x .h1) (x .h2)) b) (notMoved PastEnd d)
-    (pick (leb b (x .step)) (notMoved NotLater d) (moved x b (moveWork x (bodyIn d) b)))
+    (pick (leb b (x .step)) early (moved x b (moveWork x (bodyIn d) b)))
 
+-- and both under a tally
+abbrev pub whereAnswered : MoveOutcome → List ℕ → ℕ → MoveOutcome
+whereAnswered o d t = pick (asked (o .calls) t .given) o (notMoved Unanswered d)
+
+-- move: 3, 6, 5, 9
 unfoldable pub moveOutcome : List ℕ → ℕ → MoveOutcome
-moveOutcome d b = moveUnder (headerOf d) d b
+moveOutcome d b = moveUnder (notMoved NotLater d) (headerOf d) d b
 
--- the same under a tally
 unfoldable pub moveTallied : List ℕ → ℕ → ℕ → MoveOutcome
-moveTallied d b t = pick (asked (moveOutcome d b .calls) t .given) (moveOutcome d b) (notMoved Unanswered d)
+moveTallied d b t = whereAnswered (moveOutcome d b) d t
 
 pub record Moves (d : List ℕ) (b t : ℕ) (a : Grown) (d′ : List ℕ) (t′ : ℕ) : Type 0 where
   pub answers : a ≡ moveTallied d b t .answer
   pub leaves : d′ ≡ moveTallied d b t .table
   pub tallies : t′ ≡ asked (moveOutcome d b .calls) t .tally
+
+-- catch up: 3, 6, 9. Where the step is not later it is done with count 0, and the table stays.
+abbrev pub stayed : List ℕ → MoveOutcome
+stayed d = record { calls = 0; answer = grown.Done 0; table = d }
+
+unfoldable pub catchOutcome : List ℕ → ℕ → MoveOutcome
+catchOutcome d b = moveUnder (stayed d) (headerOf d) d b
+
+unfoldable pub catchTallied : List ℕ → ℕ → ℕ → MoveOutcome
+catchTallied d b t = whereAnswered (catchOutcome d b) d t
+
+pub record CatchesUp (d : List ℕ) (b t : ℕ) (a : Grown) (d′ : List ℕ) (t′ : ℕ) : Type 0 where
+  pub answers : a ≡ catchTallied d b t .answer
+  pub leaves : d′ ≡ catchTallied d b t .table
+  pub tallies : t′ ≡ asked (catchOutcome d b .calls) t .tally
 
 -- sign: 3, 7, 4, 9
 pub record SignOutcome : Type 0 where

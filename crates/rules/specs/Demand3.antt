@@ -1,4 +1,5 @@
--- Demand 3, clause by clause: of a key that is made from one seed and two heights and then asked to move, any number of times and to any steps.
+-- Demand 3, clause by clause: of a key that is made from one seed and two heights and then asked to move or to
+-- catch up (request 1), any number of times and to any steps. Document 01's own demand is the case in which every call is a move.
 use mathlib.Core.Path.{_≡_}
 use mathlib.Core.Bool.{true}
 use mathlib.Core.List.{List, [], _∷_}
@@ -27,7 +28,7 @@ Message m = (length m ≤ limit) × Bytes m
 abbrev pub AcceptsOwn : Type 0
 AcceptsOwn = (x m : List ℕ) → Bytes32 x → Message m → accepts (publicKey x) m (signature x m) ≡ true
 
--- the table `made` was made from s, `now` is what the asked moves have left of it, and `last` the last accepted of them
+-- the table `made` was made from s, `now` is what the asked moves and catch-ups have left of it, and `last` the last accepted of them
 pub record Keeps (h1 h2 : ℕ) (s made now : List ℕ) (last : Last) : Type 0 where
   -- byte for byte the one moved once, straight to the last accepted step
   pub straight : now ≡ straightTo made last
@@ -44,7 +45,7 @@ pub record Keeps (h1 h2 : ℕ) (s made now : List ℕ) (last : Last) : Type 0 wh
   pub accepted : AcceptsOwn → (m out key : List ℕ) → Message m → length out ≡ signatureSize h1 h2 → length key ≡ 32
       → verifyOutcome h1 h2 (keyOutcome made key .out) (stepOf last) m (signOutcome now m out .out) .answer ≡ verdict.Accepted
 
--- DEMAND 3: for heights up to 12, a seed of 32 bytes, a table lent of the right length, and every list of asked moves
+-- DEMAND 3: for heights up to 12, a seed of 32 bytes, a table lent of the right length, and every list of asked moves and catch-ups
 abbrev pub Demand3 : Type 0
 Demand3 =
     (h1 h2 : ℕ) (s d : List ℕ) (asked : List Asked) → h1 ≤ maxHeight → h2 ≤ maxHeight → Bytes32 s → length d ≡ tableSize h1 h2

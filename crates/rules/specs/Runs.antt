@@ -1,8 +1,8 @@
--- Demand 3, "moved about, some moves refused": a list of asked moves, and the last accepted of them.
+-- Demand 3, "moved about, some moves refused": a list of calls that ask for moves, request 1's catch-ups among them, and the last accepted of them.
 use mathlib.Core.List.{List}
-use Prim.Native.Nat.{ℕ}
+use Prim.Native.Nat.{ℕ, zero, suc}
 use Rattle.fields.specs.Runs.{after, ends}
-use Rattle.rules.specs.Calls.{MoveOutcome, moveOutcome, moveTallied}
+use Rattle.rules.specs.Calls.{MoveOutcome, moveOutcome, moveTallied, catchTallied}
 use Rattle.rules.specs.declared.Grown.{Grown}
 use Rattle.rules.specs.declared.Grown.the-variants as grown
 
@@ -16,23 +16,30 @@ unfoldable pub accepted : Grown → ℕ → Last → Last
 accepted (grown.Done n) b x = at b
 accepted (grown.Refused why) b x = x
 
--- a move asked for: the step, and the tally lent to the call (request 4)
-pub record Asked : Type 0 where
-  pub to : ℕ
-  pub tally : ℕ
+-- a catch-up that moves, as its own answer tells by its count, is an accepted move, any other none
+unfoldable pub caught : Grown → ℕ → Last → Last
+caught (grown.Done zero) b x = x
+caught (grown.Done (suc n)) b x = at b
+caught (grown.Refused why) b x = x
 
-abbrev pub moveLeaves : List ℕ → Asked → List ℕ
-moveLeaves d o = moveTallied d (o .to) (o .tally) .table
+-- a move or a catch-up asked for: the step, and the tally lent to the call (request 4)
+pub data Asked : Type 0 where
+  move catchUp : (to tally : ℕ) → Asked
 
-abbrev pub moveTells : Last → List ℕ → Asked → Last
-moveTells x d o = accepted (moveTallied d (o .to) (o .tally) .answer) (o .to) x
+abbrev pub askedLeaves : List ℕ → Asked → List ℕ
+askedLeaves d (move b t) = moveTallied d b t .table
+askedLeaves d (catchUp b t) = catchTallied d b t .table
+
+abbrev pub askedTells : Last → List ℕ → Asked → Last
+askedTells x d (move b t) = accepted (moveTallied d b t .answer) b x
+askedTells x d (catchUp b t) = caught (catchTallied d b t .answer) b x
 
 -- what a table becomes, and the last accepted step
 abbrev pub movedBy : List ℕ → List Asked → List ℕ
-movedBy d asked = after moveLeaves d asked
+movedBy d asked = after askedLeaves d asked
 
 abbrev pub lastAccepted : List ℕ → List Asked → Last
-lastAccepted d asked = ends moveLeaves moveTells none d asked
+lastAccepted d asked = ends askedLeaves askedTells none d asked
 
 -- moved once, with every answer given, straight there, or not moved if none was accepted
 abbrev pub straightTo : List ℕ → Last → List ℕ

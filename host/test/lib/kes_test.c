@@ -131,6 +131,23 @@ static void moving(void)
     expect(memcmp(&other, &table, sizeof table) == 0, "a refused move changes nothing");
 }
 
+/* Two timers: the slower asks for a step that is not later. */
+static void catching_up(void)
+{
+    size_t size = kes_table_size(H1, H2);
+    uint64_t caught, before;
+    make();
+    caught = kes_catch_up(in(&table), size, 5, &tally);
+    expect(kes_number(caught) == KES_DONE && kes_count(caught) == 1 + 4 + 1, "a catch-up to a later step is the move");
+    expect(guarded(&table, size), "catching up writes nothing else");
+    other = table;
+    before = tally;
+    expect(kes_catch_up(in(&table), size, 5, &tally) == 0 && kes_catch_up(in(&table), size, 4, &tally) == 0, "a step that is not later is no fault and counts 0");
+    expect(kes_catch_up(in(&table), size, STEPS, &tally) == KES_PAST_END, "step 8 is refused with 6");
+    expect(kes_catch_up(in(&table), size - 1, STEPS, &tally) == KES_TABLE, "3 comes before 6");
+    expect(memcmp(&other, &table, sizeof table) == 0 && tally == before, "a catch-up that stays changes nothing, the tally neither");
+}
+
 static void signing(void)
 {
     size_t size = kes_table_size(H1, H2), signed_size = kes_signature_size(H1, H2);
@@ -298,6 +315,7 @@ int main(int argc, char **argv)
     making();
     careless();
     moving();
+    catching_up();
     verifying();
     hashing(argv[1]);
     fair_making();

@@ -12,7 +12,7 @@
 #include <stddef.h>
 #include <stdint.h>
 
-enum { MAKE, READ_KEY, MOVE, SIGN, VERIFY, HASH, FAIR_MAKE, FAIR_MOVE, FAIR_SIGN, FAIR_VERIFY, CALLS };
+enum { MAKE, READ_KEY, MOVE, CATCH_UP, SIGN, VERIFY, HASH, FAIR_MAKE, FAIR_MOVE, FAIR_SIGN, FAIR_VERIFY, CALLS };
 /* whole pages, with room for the largest cache and more */
 enum { LENT = 4, MOST = 36864 };
 

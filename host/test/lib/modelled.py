@@ -8,9 +8,9 @@ import ed25519
 import fair
 import kes
 import sodium
-from .library import ANSWERED, FAIR_MAKE, FAIR_MOVE, FAIR_SIGN, FAIR_VERIFY, HASH, LENT, MAKE, MOVE, READ_KEY, SIGN, VERIFY
+from .library import ANSWERED, CATCH_UP, FAIR_MAKE, FAIR_MOVE, FAIR_SIGN, FAIR_VERIFY, HASH, LENT, MAKE, MOVE, READ_KEY, SIGN, VERIFY
 
-NAMES = ["make", "read key", "move", "sign", "verify", "hash", "fair make", "fair move", "fair sign", "fair verify"]
+NAMES = ["make", "read key", "move", "catch up", "sign", "verify", "hash", "fair make", "fair move", "fair sign", "fair verify"]
 
 
 class Counted(kes.Module):
@@ -48,6 +48,7 @@ class Model:
             MAKE: lambda: s.make(h1, h2, a, b),
             READ_KEY: lambda: (s.read_key(a, b), 0),
             MOVE: lambda: s.move(a, step),
+            CATCH_UP: lambda: s.catch_up(a, step),
             SIGN: lambda: (s.sign(a, b, c), 0),
             VERIFY: lambda: (s.verify(h1, h2, a, step, b, c), 0),
             HASH: lambda: (kes.hash_call(a, b), 0),

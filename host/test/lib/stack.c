@@ -36,6 +36,13 @@ static void move(void)
     l->answer = kes_move(l->table, sizeof l->table, l->step, &l->tally);
 }
 
+static void catch_up(void)
+{
+    HERE();
+    memcpy(l->table, l->fresh, sizeof l->table);
+    l->answer = kes_catch_up(l->table, sizeof l->table, l->step, &l->tally);
+}
+
 static void read_key(void)
 {
     HERE();
@@ -101,6 +108,7 @@ static const struct {
     {"move to the child's last step", move, ((uint64_t)1 << H2) - 1},
     {"move to the next parent step", move, (uint64_t)1 << H2},
     {"move to the last step", move, ((uint64_t)1 << (H1 + H2)) - 1},
+    {"catch up to the last step", catch_up, ((uint64_t)1 << (H1 + H2)) - 1},
     {"fair make", fair_make, 0},
     {"fair sign", fair_sign, 0},
     {"fair verify", fair_verify, 0},

@@ -18,7 +18,8 @@ REPLACE = """    file_link(secret->name, secret->name_old);
     file_discard(secret->name_old);
 """
 TIDY_NEW, TIDY_OLD = "    file_discard(secret->name_new);\n", "    file_discard(secret->name_old);\n"
-MOVED = """    need(kes_number(moved), "kes_move");
+MOVED = """    if (kes_count(moved) == 0)
+        return;
 """
 STORED = "    secret_replace(&KEY, desk.table, desk.table_len);\n"
 NAMED = """    secret_write_new(&KEY, desk.table, desk.table_len);
