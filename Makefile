@@ -1,8 +1,9 @@
 # What there is to do here. README.md says what each is for.
-.PHONY: help demo test desk install bench plot fuzz clean
+.PHONY: help demo lesson test desk install bench plot fuzz clean
 
 help:
 	@echo 'make demo    build everything for the desk and show a short day of it, and one at a fair'
+	@echo 'make lesson  a tree for those who learn the rules, at a step (STEP=0 to 7)'
 	@echo 'make test    every check there is: host tests and the gate (rt ci), side by side'
 	@echo 'make desk    build/: the library and programs with real Ed25519 (ED25519=sodium or openssl)'
 	@echo 'make install puts library, header, programs and man pages under PREFIX (and DESTDIR)'
@@ -22,6 +23,11 @@ install:
 
 demo: desk
 	@host/demo
+
+STEP ?= 5
+lesson:
+	@[ -x build/show_tree ] || $(MAKE) desk
+	@build/show_tree '$(STEP)'
 
 test:
 	@host/gate

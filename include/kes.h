@@ -1,4 +1,4 @@
-/* kes.h: an evolving signing key, and a fair's cache of keys, for C99 and C++.
+/* kes.h: an evolving signing key, a fair's cache of keys, and a plain engine to train by, for C99 and C++.
  *
  * THE ORDER OF WORK. A move destroys the key of the step it leaves, so a desk keeps this order and no other:
  *     sign, store the record, write the chip, show "done", and only then move.
@@ -19,7 +19,7 @@
  *   - kes_make, kes_move and kes_catch_up answer a number and a count in one word: take them apart with kes_number and kes_count.
  *     When a make or a move is done the word is never 0, so `if (kes_move(..) == 0)` is always wrong; of a catch-up it is 0 where
  *     the key has stayed.
- *     The other calls, those of the fair too, answer the number alone.
+ *     The other calls, those of the fair and the plain engine too, answer the number alone.
  */
 #ifndef KES_H
 #define KES_H
@@ -40,12 +40,12 @@ extern "C" {
 /* What a call can answer. */
 enum kes_numbers {
     KES_DONE = 0,         /* done, or accepted */
-    KES_HEIGHT = 1,       /* a height above KES_HEIGHT_MAX */
+    KES_HEIGHT = 1,       /* a height above KES_HEIGHT_MAX, of the plain engine above KES_PLAIN_HEIGHT_MAX */
     KES_SEED_OR_KEY = 2,  /* seed or verification key not 32 bytes, a fair's seeds not 32 for each entry */
     KES_TABLE = 3,        /* not a well-formed table or cache */
-    KES_LENGTH = 4,       /* output or signature not its exact length */
+    KES_LENGTH = 4,       /* output, signature or plain table not its exact length */
     KES_NOT_LATER = 5,    /* new step not later than the table's or cache's */
-    KES_PAST_END = 6,     /* step at or past kes_steps, or a cache's entries */
+    KES_PAST_END = 6,     /* step at or past kes_steps, a cache's entries, or a plain tree's leaves */
     KES_TOO_LONG = 7,     /* message, or bytes fed to the hash, above KES_MESSAGE_MAX */
     KES_ENTRIES = 8,      /* a fair's entries not 1 to KES_FAIR_MAX */
     KES_UNANSWERED = 9,   /* the module did not answer: only the tally has changed */
@@ -65,6 +65,10 @@ enum kes_numbers {
 #define KES_FAIR_SIGNATURE_SIZE 160u
 /* The largest cache, of 256 entries. */
 #define KES_FAIR_CACHE_MAX 32772u
+
+#define KES_PLAIN_HEIGHT_MAX 8u
+/* The largest plain table, at height 8. */
+#define KES_PLAIN_TABLE_MAX 32736u
 
 /* Stack that a caller leaves free below it: what a call may use, with the Ed25519 library, and what kes_wipe clears.
  * docs/HOST.md has what each call was measured to use. */
@@ -86,6 +90,16 @@ static inline uint64_t kes_steps(uint64_t h1, uint64_t h2) { return KES_HEIGHTS_
 
 static inline size_t kes_fair_cache_size(uint64_t n) { return KES_FAIR_CACHE_SIZE(n); }
 static inline size_t kes_fair_seeds_size(uint64_t n) { return KES_FAIR_SEEDS_SIZE(n); }
+
+/* Sizes of a plain table and of what is read from it, for a tree of height h, 0 where h is not 0 to 8; a path of height 0 is 0 bytes too. */
+#define KES_PLAIN_FITS(h) ((uint64_t)(h) <= KES_PLAIN_HEIGHT_MAX)
+#define KES_PLAIN_TABLE_SIZE(h) (KES_PLAIN_FITS(h) ? ((size_t)128 << ((h) & 15)) - 32u : 0u)
+#define KES_PLAIN_PATH_SIZE(h) (KES_PLAIN_FITS(h) ? 32u * (size_t)(h) : 0u)
+#define KES_PLAIN_SIGNATURE_SIZE(h) (KES_PLAIN_FITS(h) ? 96u + 32u * (size_t)(h) : 0u)
+
+static inline size_t kes_plain_table_size(uint64_t h) { return KES_PLAIN_TABLE_SIZE(h); }
+static inline size_t kes_plain_path_size(uint64_t h) { return KES_PLAIN_PATH_SIZE(h); }
+static inline size_t kes_plain_signature_size(uint64_t h) { return KES_PLAIN_SIGNATURE_SIZE(h); }
 
 /* The number and the count in the answer of kes_make, kes_move and kes_catch_up. */
 static inline uint32_t kes_number(uint64_t answer) { return (uint32_t)answer; }
@@ -137,9 +151,26 @@ KES_CHECKED uint32_t kes_fair_sign(const uint8_t *cache, size_t cache_len, const
 /* Verifies a signature over a message at a step of a fair of n entries. Answers KES_DONE or KES_NOT_ACCEPTED; refuses 8, 2, 4, 7, 6. */
 KES_CHECKED uint32_t kes_fair_verify(uint64_t n, const uint8_t *key, size_t key_len, uint64_t step, const uint8_t *message, size_t message_len, const uint8_t *signature, size_t signature_len);
 
+/* THE PLAIN ENGINE, TO TRAIN BY. The whole of one tree in a table: all node hashes, level by level from the root, then each leaf's
+ * secret and vk. NEVER A DESK'S KEY: every leaf's secret stays in the table, so whoever reads it once signs at every step. */
+
+/* Fills the table of the tree of height h that grows from a seed, and zeroes the seed. Refuses 1, 2, 4, 9.
+ *     uint8_t table[KES_PLAIN_TABLE_SIZE(3)];
+ *     if (kes_plain_fill(3, seed, sizeof seed, table, sizeof table, &tally) != KES_DONE) ... */
+KES_CHECKED uint32_t kes_plain_fill(uint64_t h, uint8_t *seed, size_t seed_len, uint8_t *table, size_t table_len, uint64_t *tally);
+
+/* Reads the root, 32 bytes. Refuses 1, 4. */
+KES_CHECKED uint32_t kes_plain_root(uint64_t h, const uint8_t *table, size_t table_len, uint8_t *root, size_t root_len);
+
+/* Reads the witnesses of a leaf, 32 bytes for each level, from the leaf upwards. Refuses 1, 4, 6. */
+KES_CHECKED uint32_t kes_plain_path(uint64_t h, const uint8_t *table, size_t table_len, uint64_t leaf, uint8_t *path, size_t path_len);
+
+/* Signs a message by a leaf, into 96 + 32h bytes: vk, Ed25519's signature, the witnesses. Refuses 1, 4, 7, 6, 9. */
+KES_CHECKED uint32_t kes_plain_sign(uint64_t h, const uint8_t *table, size_t table_len, uint64_t leaf, const uint8_t *message, size_t message_len, uint8_t *signature, size_t signature_len, uint64_t *tally);
+
 /* NOT PROVED: C beside the proofs. Clears what the calls left behind below its caller: KES_STACK bytes of dead stack, and on
- * x86-64 and 64-bit Arm the registers that a call may leave as it likes. Call it after each call that makes, moves or signs, the
- * fair's too, from the function that called it or one that called that. docs/SECURITY.md says what it does not reach. */
+ * x86-64 and 64-bit Arm the registers that a call may leave as it likes. Call it after each call that makes, fills, moves or signs, the
+ * fair's and the plain engine's too, from the function that called it or one that called that. docs/SECURITY.md says what it does not reach. */
 void kes_wipe(void);
 
 #ifdef __cplusplus

@@ -1,4 +1,4 @@
-/* agree [KEYS]: lives of random keys and of random fairs' caches, in the proved library and in its plain peer. Every answer and every byte
+/* agree [KEYS]: lives of random keys, of random fairs' caches and of random plain trees, in the proved library and in its plain peer. Every answer and every byte
  * that is left must be the same, on good requests and on spoiled ones, some of which the module does not answer. Always the same lives. */
 #include <stdio.h>
 #include <stdlib.h>
@@ -8,17 +8,20 @@
 
 #include "fairs.h"
 #include "schemes.h"
+#include "whole_tree.h"
 
-enum { MAKE, READ_KEY, MOVE, SIGN, VERIFY, FAIR_MAKE, FAIR_MOVE, FAIR_SIGN, FAIR_VERIFY, CALLS };
-enum { KEY_CALLS = FAIR_MAKE, FAIR_CALLS = CALLS - KEY_CALLS };
-static const char *const names[CALLS] = {"make", "read key", "move", "sign", "verify", "fair make", "fair move", "fair sign", "fair verify"};
+enum { MAKE, READ_KEY, MOVE, SIGN, VERIFY, FAIR_MAKE, FAIR_MOVE, FAIR_SIGN, FAIR_VERIFY, FILL, ROOT, PATH, LEAF_SIGN, CALLS };
+enum { KEY_CALLS = FAIR_MAKE, FAIR_CALLS = FILL - FAIR_MAKE, WHOLE_CALLS = CALLS - FILL };
+static const char *const names[CALLS] = {"make", "read key", "move", "sign", "verify", "fair make", "fair move", "fair sign", "fair verify",
+    "plain fill", "plain root", "plain path", "plain sign"};
 
 /* A call's numbers and lengths, and the bytes lent, each buffer with room for one byte too many. */
 struct request {
     uint64_t h1, h2, step, n, tally;
-    size_t seed_len, table_len, key_len, message_len, signature_len, seeds_len, cache_len;
+    size_t seed_len, table_len, key_len, message_len, signature_len, seeds_len, cache_len, tree_len, path_len;
     uint8_t seed[KES_SEED_SIZE + 1], table[KES_TABLE_MAX + 1], key[KES_KEY_SIZE + 1], message[KES_MESSAGE_MAX + 1],
-        signature[KES_SIGNATURE_MAX + 1], seeds[KES_FAIR_SEEDS_SIZE(KES_FAIR_MAX) + 1], cache[KES_FAIR_CACHE_MAX + 1];
+        signature[KES_SIGNATURE_MAX + 1], seeds[KES_FAIR_SEEDS_SIZE(KES_FAIR_MAX) + 1], cache[KES_FAIR_CACHE_MAX + 1], tree[KES_PLAIN_TABLE_MAX + 1],
+        path[KES_PLAIN_PATH_SIZE(KES_PLAIN_HEIGHT_MAX) + 1];
 };
 
 static struct request lent;
@@ -71,8 +74,21 @@ static uint64_t ask_fair(const struct fair *f, int call, struct request *r)
     }
 }
 
-static uint64_t ask(const struct scheme *s, const struct fair *f, int call, struct request *r)
+/* Of a tree of height h1, at the leaf of step. */
+static uint64_t ask_whole(const struct whole *w, int call, struct request *r)
 {
+    switch (call) {
+    case FILL: return w->fill(r->h1, r->seed, r->seed_len, r->tree, r->tree_len, &r->tally);
+    case ROOT: return w->root(r->h1, r->tree, r->tree_len, r->key, r->key_len);
+    case PATH: return w->path(r->h1, r->tree, r->tree_len, r->step, r->path, r->path_len);
+    default: return w->sign(r->h1, r->tree, r->tree_len, r->step, r->message, r->message_len, r->signature, r->signature_len, &r->tally);
+    }
+}
+
+static uint64_t ask(const struct scheme *s, const struct fair *f, const struct whole *w, int call, struct request *r)
+{
+    if (call >= FILL)
+        return ask_whole(w, call, r);
     if (call >= KEY_CALLS)
         return ask_fair(f, call, r);
     switch (call) {
@@ -91,8 +107,8 @@ static uint32_t both(int call)
     static struct request peers;
     uint64_t answer, peer;
     peers = lent;
-    answer = ask(&library, &library_fair, call, &lent);
-    peer = ask(&plain, &plain_fair, call, &peers);
+    answer = ask(&library, &library_fair, &library_whole, call, &lent);
+    peer = ask(&plain, &plain_fair, &plain_whole, call, &peers);
     if (answer != peer || memcmp(&lent, &peers, sizeof lent) != 0) {
         fprintf(stderr, "agree: library and plain C differ: %s at (%u,%u) or %u entries, step %u: %llx and %llx\n", names[call], (unsigned)lent.h1,
                 (unsigned)lent.h2, (unsigned)lent.n, (unsigned)lent.step, (unsigned long long)answer, (unsigned long long)peer);
@@ -105,11 +121,12 @@ static uint32_t both(int call)
 /* One wrong number, one wrong length or one changed byte. */
 static void spoil(void)
 {
-    enum { NUMBERS = 4, LENGTHS = 7, BYTES = 5 };
+    enum { NUMBERS = 4, LENGTHS = 9, BYTES = 6 };
     uint64_t *numbers[NUMBERS] = {&lent.h1, &lent.h2, &lent.step, &lent.n};
-    size_t *lengths[LENGTHS] = {&lent.seed_len, &lent.table_len, &lent.key_len, &lent.message_len, &lent.signature_len, &lent.seeds_len, &lent.cache_len};
-    uint8_t *bytes[BYTES] = {lent.table, lent.key, lent.message, lent.signature, lent.cache};
-    size_t sizes[BYTES] = {lent.table_len, lent.key_len, lent.message_len, lent.signature_len, lent.cache_len};
+    size_t *lengths[LENGTHS] = {&lent.seed_len, &lent.table_len, &lent.key_len, &lent.message_len, &lent.signature_len, &lent.seeds_len, &lent.cache_len,
+        &lent.tree_len, &lent.path_len};
+    uint8_t *bytes[BYTES] = {lent.table, lent.key, lent.message, lent.signature, lent.cache, lent.tree};
+    size_t sizes[BYTES] = {lent.table_len, lent.key_len, lent.message_len, lent.signature_len, lent.cache_len, lent.tree_len};
     uint64_t which = draw(NUMBERS + LENGTHS + 2 * BYTES), at = which % BYTES;
     if (which < NUMBERS)
         *numbers[which] = draw(2) ? draw(20) : UINT64_MAX - draw(20);
@@ -227,6 +244,25 @@ static void live_fair(uint64_t n)
     }
 }
 
+/* A plain tree, of which every leaf is read and signs. */
+static void live_whole(uint64_t h)
+{
+    memset(&lent, 0, sizeof lent);
+    lent.h1 = h;
+    lent.seed_len = KES_SEED_SIZE, lent.tree_len = kes_plain_table_size(h), lent.key_len = KES_KEY_SIZE;
+    lent.path_len = kes_plain_path_size(h), lent.signature_len = kes_plain_signature_size(h);
+    draw_bytes(lent.seed, KES_SEED_SIZE);
+    must(FILL);
+    must(ROOT);
+    draw_bytes(lent.seed, KES_SEED_SIZE);
+    for (; lent.step >> h == 0; lent.step++) {
+        draw_message();
+        must(PATH);
+        must(LEAF_SIGN);
+        spoiled(12, FILL, WHOLE_CALLS);
+    }
+}
+
 /* The moves that are raced: 0 to 1, and from 0 to the last step. */
 static void live_raced(uint64_t h1, uint64_t h2)
 {
@@ -251,6 +287,9 @@ int main(int argc, char **argv)
     for (i = 0; i < keys; i++)
         live_fair(1 + draw(12));
     live_fair(KES_FAIR_MAX);
+    for (i = 0; i < keys; i++)
+        live_whole(draw(4));
+    live_whole(KES_PLAIN_HEIGHT_MAX);
     for (i = 0; i <= KES_NOT_ACCEPTED; i++)
         if (seen[i] != 0)
             printf("agree: library and plain C both answer %d: %lu times\n", i, seen[i]);
@@ -258,6 +297,6 @@ int main(int argc, char **argv)
             fprintf(stderr, "agree: no request was answered %d\n", i);
             return 1;
         }
-    printf("agree: in %d lives of keys and %d of fairs every answer and every byte left is the same\n", keys + HEIGHTS, keys + 1);
+    printf("agree: in %d lives of keys, %d of fairs and %d of plain trees every answer and every byte left is the same\n", keys + HEIGHTS, keys + 1, keys + 1);
     return 0;
 }

@@ -9,9 +9,10 @@
 #include "heats.h"
 #include "schemes.h"
 #include "stopwatch.h"
+#include "whole_works.h"
 
 enum { MAKE, STEP, LEAP, SIGN, VERIFY, KINDS };
-enum { KEY_WORKS = KINDS * HEIGHTS, WORKS = KEY_WORKS + FAIR_WORKS };
+enum { KEY_WORKS = KINDS * HEIGHTS, WORKS = KEY_WORKS + FAIR_WORKS + WHOLE_WORKS };
 
 /* A key at step 0, with a signature of it. */
 struct key {
@@ -154,7 +155,8 @@ int main(void)
         for (h = 0; h < HEIGHTS; h++)
             works[w * HEIGHTS + h] = key_work(w, &keys[h]);
     fair_works(works + KEY_WORKS);
-    printf("# calls: libsodium %s; medians of %d rounds (%d where trees of height 12 grow or a fair has 256 entries) of processor time, interleaved\n",
+    whole_works(works + KEY_WORKS + FAIR_WORKS);
+    printf("# calls: libsodium %s; medians of %d rounds (%d where trees of height 12 grow, or a fair or a plain tree of 256 keys) of processor time, interleaved\n",
            sodium_version_string(), ROUNDS, ROUNDS / DEAR_EVERY);
     tell_fair_move();
     for (h = 0; h < HEIGHTS; h++)

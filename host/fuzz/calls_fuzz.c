@@ -1,16 +1,17 @@
 /* A fuzzer's target: a good call with the input laid over it, made as host/test/lib/lent.h says, over both adapters.
- * The fuzzer cannot see into the library. It sees due(), which says the number that document 01 and requests 1, 3 and 4 want, by kes.h's sizes. */
+ * The fuzzer cannot see into the library. It sees due(), which says the number that document 01 and requests 1, 3, 4 and 7 want, by kes.h's sizes. */
 #include <string.h>
 
 #include "../test/lib/lent.h"
 #include "input.h"
 #include "kes.h"
 
-enum { H1 = 1, H2 = 2, STEPS = 8, N = 3 };
+enum { H1 = 1, H2 = 2, STEPS = 8, N = 3, PLAIN_H = 2, LEAVES = 4 };
 
 static const uint8_t message[] = "111122223333444412500";
 static uint8_t key[KES_KEY_SIZE], tables[STEPS][KES_TABLE_SIZE(H1, H2)], signatures[STEPS][KES_SIGNATURE_SIZE(H1, H2)];
 static uint8_t fair_key[KES_KEY_SIZE], caches[N][KES_FAIR_CACHE_SIZE(N)], sales[N][KES_FAIR_SIGNATURE_SIZE];
+static uint8_t tree[KES_PLAIN_TABLE_SIZE(PLAIN_H)];
 static struct request request;
 static struct outcome outcome;
 static uint64_t tally;
@@ -42,11 +43,12 @@ static void make_fair(void)
 /* A key's table and signature at each of its steps. */
 int LLVMFuzzerInitialize(int *argc, char ***argv)
 {
-    uint8_t seed[KES_SEED_SIZE] = {0};
+    uint8_t seed[KES_SEED_SIZE] = {0}, plain_seed[KES_SEED_SIZE] = {3};
     size_t i;
     (void)argc, (void)argv;
     lend_start();
     make_fair();
+    need(kes_plain_fill(PLAIN_H, plain_seed, sizeof plain_seed, tree, sizeof tree, &tally));
     need(kes_make(H1, H2, seed, sizeof seed, tables[0], sizeof tables[0], &tally));
     need(kes_read_key(tables[0], sizeof tables[0], key, sizeof key));
     for (i = 0; i < STEPS; i++) {
@@ -80,6 +82,20 @@ static void lay_good_fair(int op, uint64_t step)
         lay(1, message, sizeof message);
     if (op == FAIR_SIGN)
         lay(2, NULL, sizeof sales[step]);
+}
+
+/* A good call at a leaf of the plain tree. */
+static void lay_good_plain(int op, uint64_t leaf)
+{
+    request.op = op, request.h1 = PLAIN_H, request.step = leaf;
+    if (op == PLAIN_FILL)
+        lay(0, NULL, KES_SEED_SIZE), lay(1, NULL, sizeof tree);
+    else
+        lay(0, tree, sizeof tree);
+    if (op == PLAIN_ROOT || op == PLAIN_PATH)
+        lay(1, NULL, op == PLAIN_ROOT ? KES_DIGEST_SIZE : KES_PLAIN_PATH_SIZE(PLAIN_H));
+    if (op == PLAIN_SIGN)
+        lay(1, message, sizeof message), lay(2, NULL, KES_PLAIN_SIGNATURE_SIZE(PLAIN_H));
 }
 
 /* A good call at a step of the key. */
@@ -228,9 +244,37 @@ static uint32_t fair_due(const struct request *r)
     return r->len[2] != KES_FAIR_SIGNATURE_SIZE ? KES_LENGTH : KES_DONE;
 }
 
+/* The length of what a call of the plain engine writes out. */
+static size_t plain_out(const struct request *r)
+{
+    if (r->op == PLAIN_ROOT)
+        return KES_DIGEST_SIZE;
+    return r->op == PLAIN_PATH ? kes_plain_path_size(r->h1) : kes_plain_signature_size(r->h1);
+}
+
+/* The number that request 7 has for a call of the plain engine. */
+static uint32_t plain_due(const struct request *r)
+{
+    if (!KES_PLAIN_FITS(r->h1))
+        return KES_HEIGHT;
+    if (r->op == PLAIN_FILL && r->len[0] != KES_SEED_SIZE)
+        return KES_SEED_OR_KEY;
+    if (r->len[r->op == PLAIN_FILL ? 1 : 0] != kes_plain_table_size(r->h1))
+        return KES_LENGTH;
+    if (r->op == PLAIN_FILL)
+        return KES_DONE;
+    if (r->len[r->op == PLAIN_SIGN ? 2 : 1] != plain_out(r))
+        return KES_LENGTH;
+    if (r->op == PLAIN_SIGN && r->len[1] > KES_MESSAGE_MAX)
+        return KES_TOO_LONG;
+    return r->op != PLAIN_ROOT && r->step >> r->h1 != 0 ? KES_PAST_END : KES_DONE;
+}
+
 /* The number that document 01's table has for a call that is answered. */
 static uint32_t due_if_answered(const struct request *r)
 {
+    if (r->op >= PLAIN_FILL)
+        return plain_due(r);
     if (r->op >= FAIR_MAKE)
         return fair_due(r);
     if (r->op == MAKE)
@@ -261,7 +305,8 @@ static uint64_t askings(const struct request *r)
         /* fall through */
     case MOVE: return from >> h2 == r->step >> h2 ? half(from, r->step) : half(from >> h2, r->step >> h2) + ((uint64_t)1 << h2) + 1;
     case FAIR_MAKE: return 2 * r->h1 + 1;
-    default: return r->op == SIGN || r->op == FAIR_SIGN;
+    case PLAIN_FILL: return (uint64_t)1 << r->h1;
+    default: return r->op == SIGN || r->op == FAIR_SIGN || r->op == PLAIN_SIGN;
     }
 }
 
@@ -281,7 +326,9 @@ int LLVMFuzzerTestOneInput(const uint8_t *data, size_t size)
     size_t i;
     int op = next(&in) % CALLS;
     memset(&request, 0, sizeof request);
-    if (op >= FAIR_MAKE)
+    if (op >= PLAIN_FILL)
+        lay_good_plain(op, next(&in) % LEAVES);
+    else if (op >= FAIR_MAKE)
         lay_good_fair(op, next(&in) % (op == FAIR_MOVE ? N - 1 : N));
     else
         lay_good(op, next(&in) % (op == MOVE ? STEPS - 1 : STEPS));

@@ -14,13 +14,15 @@ import corpus
 import fair
 import fair_calls
 import kes
+import plain
+import plain_calls
 import sodium
-from lib.library import CATCH_UP, FAIR_MAKE, FAIR_MOVE, FAIR_SIGN, HASH, MAKE, MOST, MOVE, READ_KEY, SIGN, VERIFY, Ended, Library
+from lib.library import CATCH_UP, FAIR_MAKE, FAIR_MOVE, FAIR_SIGN, HASH, MAKE, MOST, MOVE, PLAIN_FILL, READ_KEY, SIGN, VERIFY, Ended, Library
 from lib.modelled import NAMES, Model, show
 from mutate import edge, spoiled
-from planted import FAIR, HOSTILE, PLANTED
+from planted import FAIR, HOSTILE, PLAIN, PLANTED
 from rounds import Different, NoAnswer, main
-from silences import FAIR_SILENCES, SILENCES
+from silences import FAIR_SILENCES, PLAIN_SILENCES, SILENCES
 
 SIZES = [0, 1, 31, 32, 33, 127, 128, 129, kes.LONGEST - 1, kes.LONGEST, kes.LONGEST + 1, 2 * kes.LONGEST]
 # key pairs that a case may grow, at 0.1 ms or so each
@@ -112,9 +114,15 @@ def fair_verify(draw):
     return fair_calls.verify(draw, some_message(draw))
 
 
+def plain_sign(draw):
+    return plain_calls.sign(draw, some_message(draw))
+
+
 # in the order of their numbers: the calls, how often each is drawn, and how many buffers it is lent
 CALLS = [make, read_key, move, catch_up, sign, verify, hashed, fair_calls.make, fair_calls.move, fair_sign, fair_verify]
 WEIGHTS, BUFFERS = [1, 1, 2, 2, 2, 3, 1, 1, 1, 1, 2], [2, 2, 1, 1, 3, 3, 2, 4, 1, 3, 3]
+CALLS += [plain_calls.fill, plain_calls.root, plain_calls.path, plain_sign]
+WEIGHTS, BUFFERS = WEIGHTS + [1, 1, 1, 1], BUFFERS + [2, 2, 2, 3]
 
 
 def heights_spoiled(draw, table):
@@ -146,6 +154,9 @@ def header_spoiled(draw, request):
 
 def number_spoiled(draw, request):
     at = draw.choice([1, 2, 3])
+    if request[0] >= PLAIN_FILL:
+        request[at] = edge(draw, request[at], 2 ** min(request[1], plain.HIGHEST) if at == 3 else plain.HIGHEST + 1)
+        return
     if request[0] >= FAIR_MAKE:
         n = (fair.read_header(request[4][0]) or (0,))[0] if request[0] == FAIR_MOVE else request[1]
         request[at] = edge(draw, request[at], n if at == 3 else fair.MOST + 1)
@@ -170,6 +181,8 @@ def grown(request):
     found = kes.read_header(first)
     if op == FAIR_MAKE and fair.fits(h1):
         return h1 + 1
+    if op == PLAIN_FILL and h1 <= plain.HIGHEST:
+        return 2**h1
     if op == MAKE and max(h1, h2) <= kes.TALLEST:
         return 2**h1 + 2**h2
     if op in (MOVE, CATCH_UP) and found and found[2] < step < kes.steps(*found[:2]):
@@ -207,8 +220,8 @@ def told(outcome):
 class Comparison:
     """The library beside a model."""
 
-    def __init__(self, library, scheme=kes.Scheme, cache=fair.Fair):
-        self.library, self.model = library, Model(sodium, scheme, cache)
+    def __init__(self, library, scheme=kes.Scheme, cache=fair.Fair, engine=plain.Plain):
+        self.library, self.model = library, Model(sodium, scheme, cache, engine)
         self.case, self.show = hostile, show
 
     def check(self, request):
@@ -227,4 +240,5 @@ if __name__ == "__main__":
         compared = functools.partial(Comparison, Library(folder))
         errors = [(error, {"scheme": error}) for error in PLANTED + HOSTILE + SILENCES]
         errors += [(error, {"cache": error}) for error in FAIR + FAIR_SILENCES]
+        errors += [(error, {"engine": error}) for error in PLAIN + PLAIN_SILENCES]
         main(__file__, compared, {error.__doc__.rstrip("."): functools.partial(compared, **planted) for error, planted in errors})

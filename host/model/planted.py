@@ -1,7 +1,8 @@
 """Document 01's "Errors that look right", and some that only hostile input shows, each planted in the model, so that tests can show
-that a comparison notices it. Below them the same for the fair's cache."""
+that a comparison notices it. Below them the same for the fair's cache and the plain engine."""
 from fair import ENTRY, Fair, fits
 from kes import DONE, LENGTH, TABLE, TALLEST, ZEROS, Scheme, read_body, read_header, signature_size, steps
+from plain import HIGHEST, Plain
 
 
 class StepModulo(Scheme):
@@ -169,3 +170,76 @@ class FairStepModulo(Fair):
 
 
 FAIR = [TwoBytes, HighestFirst, KeyFirst, SecretAlone, FromTheOldStep, SeedsLeft, FairStepModulo]
+
+
+class HalvesSwapped(Plain):
+    """A plain tree grows its left half from the right seed, and its right half from the left."""
+
+    def halves(self, seed):
+        return super().halves(seed)[::-1]
+
+
+class LeavesFirst(Plain):
+    """A plain table begins with the level of the leaves."""
+
+    def laid(self, levels, secrets, vks):
+        return super().laid(levels[::-1], secrets, vks)
+
+
+class KeyBeforeSecret(Plain):
+    """A plain table has a leaf's vk before its secret."""
+
+    def laid(self, levels, secrets, vks):
+        return super().laid(levels, vks, secrets)
+
+
+class PlainSeedLeft(Plain):
+    """Filling leaves the seed."""
+
+    def spend(self, seed):
+        pass
+
+
+class OwnHash(Plain):
+    """A witness is the hash of the node on the path."""
+
+    def node(self, table, level, index):
+        return super().node(table, level, index ^ 1 if level else index)
+
+
+class NotHalved(Plain):
+    """Each level is read at the leaf's own index."""
+
+    def witnesses(self, table, h, leaf):
+        return [self.node(table, h - up, leaf ^ 1) for up in range(h)]
+
+
+class WitnessesDown(Plain):
+    """Witnesses come from the root down."""
+
+    def witnesses(self, table, h, leaf):
+        return super().witnesses(table, h, leaf)[::-1]
+
+
+class LeafZero(Plain):
+    """Every leaf signs with the secret of leaf 0."""
+
+    def pair(self, table, h, leaf):
+        return super().pair(table, h, 0)[:1] + super().pair(table, h, leaf)[1:]
+
+
+class LeafModulo(Plain):
+    """A leaf is taken modulo 2^h, where number 6 is due."""
+
+    def path(self, h, table, leaf, out):
+        return super().path(h, table, leaf % 2**h if h <= HIGHEST else leaf, out)
+
+
+class TooHigh(Plain):
+    """A height of 9 is told as a wrong length."""
+
+    def misfit(self, h, table, out, size):
+        return LENGTH if h == HIGHEST + 1 else super().misfit(h, table, out, size)
+
+
+PLAIN = [HalvesSwapped, LeavesFirst, KeyBeforeSecret, PlainSeedLeft, OwnHash, NotHalved, WitnessesDown, LeafZero, LeafModulo, TooHigh]

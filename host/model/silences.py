@@ -1,7 +1,8 @@
 """Errors in what a call does of which the module does not answer all, each planted in the model, so that tests can show that a
-comparison notices it. Below them the same for the fair's cache."""
+comparison notices it. Below them the same for the fair's cache and the plain engine."""
 from fair import Fair
 from kes import DONE, ENTRIES, UNANSWERED, ZEROS, Scheme, Silent
+from plain import Plain
 
 
 class TallyLeft(Scheme):
@@ -114,3 +115,36 @@ class SaleWritten(Fair):
 
 
 FAIR_SILENCES = [FairGoesOn, MasterGoneBySilence, SaleWritten]
+
+
+class FillGoesOn(Plain):
+    """Filling asks on after a silence."""
+
+    def fill(self, h, *lent):
+        tally, number = self.module.tally, super().fill(h, *lent)
+        if number == UNANSWERED:
+            self.module.tally = (tally + 2**h) % 2**64
+        return number
+
+
+class TableGoneBySilence(Plain):
+    """Filling that is not answered clears the table."""
+
+    def fill(self, h, seed, table):
+        number = super().fill(h, seed, table)
+        if number == UNANSWERED:
+            table[:] = bytes(len(table))
+        return number
+
+
+class LessonWritten(Plain):
+    """A leaf's signature that was not given is written out as zeros."""
+
+    def sign(self, h, table, leaf, message, out):
+        number = super().sign(h, table, leaf, message, out)
+        if number == UNANSWERED:
+            out[32:96] = bytes(64)
+        return number
+
+
+PLAIN_SILENCES = [FillGoesOn, TableGoneBySilence, LessonWritten]

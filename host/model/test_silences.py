@@ -7,8 +7,10 @@ import fair
 import kes
 import standin
 from fair import Fair, cache_size
-from kes import UNANSWERED, Module, Scheme, signature_size, steps, table_size
-from silences import FAIR_SILENCES, SILENCES
+from kes import UNANSWERED, Module, Scheme, signature_size, steps, sum_size, table_size
+from plain import Plain
+from plain import table_size as plain_size
+from silences import FAIR_SILENCES, PLAIN_SILENCES, SILENCES
 
 HEIGHTS = [(0, 0), (1, 0), (0, 1), (2, 2)]
 MODULE = Module(standin)
@@ -22,11 +24,12 @@ class Asking:
     def __init__(self, name, most, call, *lent):
         self.name, self.most, self.call, self.lent = name, most, call, lent
 
-    def run(self, answered, tally, scheme=Scheme, cache=Fair):
+    def run(self, answered, tally, scheme=Scheme, cache=Fair, engine=Plain):
         """What it answers and leaves, the tally with it."""
         MODULE.answered, MODULE.tally = answered, tally
         lent = [bytearray(x) if isinstance(x, bytes) else x for x in self.lent]
-        answer = getattr(cache(MODULE) if self.name.startswith("fair") else scheme(MODULE), self.call)(*lent)
+        over = {"fair": cache, "plain": engine}.get(self.name.split()[0], scheme)
+        answer = getattr(over(MODULE), self.call)(*lent)
         return answer, MODULE.tally, [bytes(x) if isinstance(x, bytearray) else x for x in lent]
 
 
@@ -66,7 +69,15 @@ def fairs():
         yield Asking(f"fair sign {n}", 1, "sign", cache, b"text", b"\5" * fair.SIGNATURE)
 
 
-ASKING = [*keys(), *fairs()]
+def plains():
+    for h in (0, 1, 3):
+        lent = bytes(range(32)), b"\5" * plain_size(h)
+        yield Asking(f"plain fill {h}", 2**h, "fill", h, *lent)
+        table = Asking("plain", 0, "fill", h, *lent).run(always, 0)[2][2]
+        yield Asking(f"plain sign {h}", 1, "sign", h, table, 2**h - 1, b"text", b"\5" * sum_size(h))
+
+
+ASKING = [*keys(), *fairs(), *plains()]
 
 
 def refused(answer):
@@ -111,7 +122,7 @@ def other_refusals():
     for asking in ASKING:
         short = [x[:-1] if isinstance(x, bytes) else x for x in asking.lent]
         answer, tally, left = Asking(asking.name, 0, asking.call, *short).run(lambda number: False, 7)
-        assert refused(answer)[0] in (kes.SEED_OR_KEY, kes.TABLE) and refused(answer)[1] == 0 and tally == 7 and left == short
+        assert refused(answer)[0] in (kes.SEED_OR_KEY, kes.TABLE, kes.LENGTH) and refused(answer)[1] == 0 and tally == 7 and left == short
         cases += 1
     return cases
 
@@ -140,6 +151,7 @@ def errors():
 
     sound = seen()
     wrong = [{"scheme": error} for error in SILENCES] + [{"cache": error} for error in FAIR_SILENCES]
+    wrong += [{"engine": error} for error in PLAIN_SILENCES]
     for planted in wrong:
         assert seen(**planted) != sound, planted
     return len(wrong)

@@ -8,7 +8,8 @@ import time
 
 sys.dont_write_bytecode = True
 from lib.library import CATCH_UP, FAIR_MAKE, FAIR_MOVE, FAIR_SIGN, FAIR_VERIFY, HASH, MAKE, MOVE, READ_KEY, SIGN, VERIFY, Library
-from lib.modelled import NAMES, Model, fair, kes, show
+from lib.library import PLAIN_FILL, PLAIN_PATH, PLAIN_ROOT, PLAIN_SIGN
+from lib.modelled import NAMES, Model, fair, kes, plain, show
 
 
 class Drawing:
@@ -161,6 +162,51 @@ class Fair(Drawing):
         return self.draw.choice([self.make, self.move, self.move, self.sign, self.sign, self.verify, self.verify])()
 
 
+class Plain(Drawing):
+    """Draws calls around a plain tree that lives on from call to call."""
+
+    h, table = 0, b""
+
+    def height(self):
+        return self.draw.choice([0, 1, 2, 3, 4, 5, self.draw.choice([9, 57, 255, 2**32 + 2, 2**63 + 1])])
+
+    def size(self, h):
+        return plain.table_size(h) if h <= plain.HIGHEST else self.draw.choice([0, 96, 480])
+
+    def at(self):
+        """Mostly the tree's own height, and its table."""
+        return (self.h if self.draw.random() < 0.9 else self.height()), self.odd(self.table)
+
+    def leaf(self):
+        last = 2**self.h
+        return self.draw.choice([*[self.draw.randrange(last) for _ in range(4)], last - 1, last, 2**32, 2**64 - 1])
+
+    def fill(self, h=None):
+        h = self.height() if h is None else h
+        request = PLAIN_FILL, h, 0, 0, [self.odd(bytes([self.draw.randrange(8)]) * 32), self.odd(self.draw.randbytes(self.size(h)))], self.module()
+        answer, _, (_, table) = self.model.call(*request)
+        if answer == 0:
+            self.h, self.table = h, table
+        return request
+
+    def root(self):
+        h, table = self.at()
+        return PLAIN_ROOT, h, 0, 0, [table, self.odd(bytes(32))]
+
+    def path(self):
+        h, table = self.at()
+        return PLAIN_PATH, h, 0, self.leaf(), [table, self.odd(bytes(32 * self.h))]
+
+    def sign(self):
+        h, table = self.at()
+        return PLAIN_SIGN, h, 0, self.leaf(), [table, self.message(), self.odd(bytes(kes.sum_size(self.h)))], self.module()
+
+    def next(self):
+        if not self.table:
+            return self.fill(plain.HIGHEST)
+        return self.draw.choice([self.fill, self.root, self.path, self.path, self.sign, self.sign])()
+
+
 def main():
     seed = int(sys.argv[1]) if len(sys.argv) > 1 else 1
     cases = int(sys.argv[2]) if len(sys.argv) > 2 else 2500
@@ -168,9 +214,9 @@ def main():
     with tempfile.TemporaryDirectory() as folder:
         library, model = Library(folder), Model()
         draw = random.Random(seed)
-        desk, fair_day = Desk(draw, model), Fair(draw, model)
+        desk, fair_day, tree = Desk(draw, model), Fair(draw, model), Plain(draw, model)
         for _ in range(cases):
-            request = draw.choice([desk, desk, fair_day]).next()
+            request = draw.choice([desk, desk, desk, fair_day, fair_day, tree]).next()
             given, expected = library.call(*request), model.call(*request)
             if given != expected:
                 sys.exit(f"calls: the library and the model differ at\n{show(request)}\nlibrary {given}\nmodel {expected}")

@@ -18,6 +18,7 @@ LIST = {
 BEYOND = {
     "catching up": ["rules/CatchUp"],
     "the fair-day cache": ["fair/Day", "fair/Listed", "edge/EdgeFair"],
+    "the plain engine": ["plain_rules/Equal", "plain_rules/Listed", "edge/EdgePlain"],
     "one signature, one step": ["reuse/OneStep", "reuse/Singly"],
     "a header in full": ["headers/InFull"],
     "the running hash": ["blake2b/Running"],

@@ -1,6 +1,6 @@
 #!/usr/bin/env python3
 """A module that drops out, at every place at which a call can fail: each make, move and catch-up at heights 2 and 2, signing, a fair's make of three
-entries and its signing, from tallies near 0, 2^32 and 2^64. Each time the call is made again with the tally left. Every answer, every
+entries and its signing, a plain tree of height 3 and its signing, from tallies near 0, 2^32 and 2^64. Each time the call is made again with the tally left. Every answer, every
 buffer and the tally are the independent model's. And nothing but crate ed25519 stores to a tally. Needs desk/build before."""
 import itertools
 import pathlib
@@ -9,8 +9,8 @@ import sys
 import tempfile
 
 sys.dont_write_bytecode = True
-from lib.library import CATCH_UP, FAIR_MAKE, FAIR_SIGN, MAKE, MOVE, SIGN, Library
-from lib.modelled import NAMES, Model, fair, kes, show, sodium
+from lib.library import CATCH_UP, FAIR_MAKE, FAIR_SIGN, MAKE, MOVE, PLAIN_FILL, PLAIN_SIGN, SIGN, Library
+from lib.modelled import NAMES, Model, fair, kes, plain, show, sodium
 
 ROOT = pathlib.Path(__file__).resolve().parents[2]
 STARTS = [0, 2**32 - 4, 2**32 + 96, 2**64 - 4]
@@ -31,6 +31,9 @@ def askings(model):
     yield SIGN, 0, 0, 0, [tables[9], b"a top-up", nines * 352]
     yield FAIR_MAKE, 3, 0, 0, [master, seeds, nines * fair.cache_size(3), nines * 32]
     yield FAIR_SIGN, 0, 0, 0, [cache, b"a sale", nines * fair.SIGNATURE]
+    tree = model.call(PLAIN_FILL, 3, 0, 0, [master, bytes(plain.table_size(3))])[2][1]
+    yield PLAIN_FILL, 3, 0, 0, [master, nines * plain.table_size(3)]
+    yield PLAIN_SIGN, 3, 0, 5, [tree, b"a lesson", nines * kes.sum_size(3)]
 
 
 def same(library, model, request):

@@ -1,6 +1,6 @@
 // What the programs that only test share: a seed, tallies to call from, digests of what they compare, the words of a line, and requests.
 ghost use mathlib.Core.Path.{_≡_};
-ghost use Prim.Native.Nat.{_≤_};
+ghost use Prim.Native.Nat.{_<_, _≤_};
 ghost use lib.ListN.{length, replicate};
 ghost use Rattle.blake2b.specs.Calls.{hashOutcome};
 use libc::STDIN_FILENO;
@@ -58,6 +58,32 @@ pub fn digest(bytes: &[u8]) -> [u8; 32]
     let mut out = [0u8; 32];
     blake2b::hash(bytes, &mut out);
     out
+}
+
+// The end of the piece of at most 4,096 bytes that begins at an index.
+fn piece_end(at: usize, len: usize) -> usize
+    requires { ⌜ at < len ⌝ }
+    ensures { λ r. ⌜ (at < r) × (r ≤ len) ⌝ }
+{
+    if len - at < 4096 {
+        return len;
+    }
+    at + 4096
+}
+
+// The digests of the pieces, each hashed onto those before it: a cache or a whole tree may be too long to be hashed at once.
+pub fn chained(bytes: &[u8]) -> [u8; 32]
+    ensures { λ _. ⌜ now (bytes .exit) ≡ now (bytes .entry) ⌝ }
+{
+    let mut chain = [0u8; 32];
+    let mut at: usize = 0;
+    while at < bytes.len() {
+        let end = piece_end(at, bytes.len());
+        let more = blake2b::hash_32_32(chain, digest(&bytes[at..end]));
+        chain = more;
+        at = end;
+    }
+    chain
 }
 
 pub fn show_number(n: u64) {

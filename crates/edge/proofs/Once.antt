@@ -4,6 +4,7 @@ use mathlib.Core.List.{List}
 use Prim.Native.Nat.{ℕ}
 use Rattle.edge.specs.Edge.{EdgeMakes, EdgeReads, EdgeMoves, EdgeCatchesUp, EdgeSigns, EdgeVerifies, EdgeHashes}
 use Rattle.edge.specs.EdgeFair.{EdgeFairMakes, EdgeFairMoves, EdgeFairSigns, EdgeFairVerifies}
+use Rattle.edge.specs.EdgePlain.{EdgeFills, EdgeReadsRoot, EdgeReadsPath, EdgePlainSigns}
 
 -- two values that are both a third
 joined : {A : Type 0} {x y z : A} → x ≡ z → y ≡ z → x ≡ y
@@ -84,4 +85,32 @@ fair-verify-once n k t m g x y = (
   joined (x .keeps-key) (y .keeps-key),
   joined (x .keeps-message) (y .keeps-message),
   joined (x .keeps-signature) (y .keeps-signature),
+)
+
+-- the plain engine's four
+pub plain-fill-once : (h : ℕ) (s d : List ℕ) (n : ℕ) {a b : ℕ} {s₁ s₂ d₁ d₂ : List ℕ} {n₁ n₂ : ℕ} → EdgeFills h s d n a s₁ d₁ n₁ → EdgeFills h s d n b s₂ d₂ n₂
+    → (a ≡ b) × (s₁ ≡ s₂) × (d₁ ≡ d₂) × (n₁ ≡ n₂)
+plain-fill-once h s d n x y = (
+  joined (x .numbers) (y .numbers),
+  joined (x .zeroes) (y .zeroes),
+  joined (x .leaves) (y .leaves),
+  joined (x .tallies) (y .tallies),
+)
+
+pub plain-root-once : (h : ℕ) (d out : List ℕ) {a b : ℕ} {d₁ d₂ o₁ o₂ : List ℕ} → EdgeReadsRoot h d out a d₁ o₁ → EdgeReadsRoot h d out b d₂ o₂
+    → (a ≡ b) × (d₁ ≡ d₂) × (o₁ ≡ o₂)
+plain-root-once h d out x y = (joined (x .numbers) (y .numbers), joined (x .keeps) (y .keeps), joined (x .leaves) (y .leaves))
+
+pub plain-path-once : (h : ℕ) (d : List ℕ) (t : ℕ) (out : List ℕ) {a b : ℕ} {d₁ d₂ o₁ o₂ : List ℕ} → EdgeReadsPath h d t out a d₁ o₁
+    → EdgeReadsPath h d t out b d₂ o₂ → (a ≡ b) × (d₁ ≡ d₂) × (o₁ ≡ o₂)
+plain-path-once h d t out x y = (joined (x .numbers) (y .numbers), joined (x .keeps) (y .keeps), joined (x .leaves) (y .leaves))
+
+pub plain-sign-once : (h : ℕ) (d : List ℕ) (t : ℕ) (m out : List ℕ) (n : ℕ) {a b : ℕ} {d₁ d₂ m₁ m₂ o₁ o₂ : List ℕ} {n₁ n₂ : ℕ}
+    → EdgePlainSigns h d t m out n a d₁ m₁ o₁ n₁ → EdgePlainSigns h d t m out n b d₂ m₂ o₂ n₂ → (a ≡ b) × (d₁ ≡ d₂) × (m₁ ≡ m₂) × (o₁ ≡ o₂) × (n₁ ≡ n₂)
+plain-sign-once h d t m out n x y = (
+  joined (x .numbers) (y .numbers),
+  joined (x .keeps-table) (y .keeps-table),
+  joined (x .keeps-message) (y .keeps-message),
+  joined (x .leaves) (y .leaves),
+  joined (x .tallies) (y .tallies),
 )

@@ -3,6 +3,7 @@ ghost use Rattle.edge.specs.Edge.{EdgeCatchesUp, EdgeHashes, EdgeMakes, 
 
 mod fair_day;
 mod numbers;
+mod plain_engine;
 
 use crate::numbers::answered;
 use crate::numbers::judged;

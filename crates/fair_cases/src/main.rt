@@ -5,7 +5,7 @@ ghost use Prim.Native.Nat.{_<_, _≤_};
 ghost use lib.ListN.{length};
 use cases::ANSWERED;
 use cases::SILENT;
-use cases::digest;
+use cases::chained;
 use cases::end_line;
 use cases::show_answer;
 use cases::show_field;
@@ -13,39 +13,12 @@ use cases::show_number;
 use cases::show_verdict;
 use libc::STDOUT_FILENO;
 use refusal::Answer;
-use rules::Verdict;
 
 // A cache of 257 entries would fit. The contract gives the length alone, so that no goal spells the bytes out.
 fn room() -> [u8; 32900]
     ensures { λ r. ⌜ 32900 ≡ length r ⌝ }
 {
     [9; 32900]
-}
-
-// The end of the piece of at most 4,096 bytes that begins at an index.
-fn piece_end(at: usize, len: usize) -> usize
-    requires { ⌜ at < len ⌝ }
-    ensures { λ r. ⌜ (at < r) × (r ≤ len) ⌝ }
-{
-    if len - at < 4096 {
-        return len;
-    }
-    at + 4096
-}
-
-// The digests of the pieces, each hashed onto those before it: a cache may be too long to be hashed at once.
-fn chained(bytes: &[u8]) -> [u8; 32]
-    ensures { λ _. ⌜ now (bytes .exit) ≡ now (bytes .entry) ⌝ }
-{
-    let mut chain = [0u8; 32];
-    let mut at: usize = 0;
-    while at < bytes.len() {
-        let end = piece_end(at, bytes.len());
-        let more = blake2b::hash_32_32(chain, digest(&bytes[at..end]));
-        chain = more;
-        at = end;
-    }
-    chain
 }
 
 // Another byte, and of rising ones the next.

@@ -13,7 +13,6 @@ use cases::show_field;
 use cases::show_number;
 use cases::show_verdict;
 use key::Grown;
-use key::Verdict;
 use libc::STDOUT_FILENO;
 use refusal::Answer;
 

@@ -64,6 +64,8 @@ static void sizes(void)
     expect(kes_table_size(13, 0) == 0 && kes_signature_size(0, 13) == 0 && kes_steps(UINT64_MAX, 0) == 0, "0 above height 12");
     expect(kes_fair_cache_size(1) == 132 && kes_fair_cache_size(N) == 388 && kes_fair_cache_size(KES_FAIR_MAX) == KES_FAIR_CACHE_MAX, "the cache's sizes");
     expect(kes_fair_seeds_size(1) == 32 && kes_fair_seeds_size(KES_FAIR_MAX) == 8192, "the sizes of a fair's seeds");
+    expect(kes_plain_table_size(0) == 96 && kes_plain_table_size(3) == 992 && kes_plain_table_size(8) == KES_PLAIN_TABLE_MAX, "the plain table's sizes");
+    expect(kes_plain_path_size(3) == 96 && kes_plain_signature_size(3) == 192 && kes_plain_table_size(9) == 0 && kes_plain_table_size(UINT64_MAX) == 0, "0 above height 8");
     expect(kes_fair_cache_size(0) == 0 && kes_fair_cache_size(257) == 0 && kes_fair_seeds_size(0) == 0 && kes_fair_seeds_size(UINT64_MAX) == 0, "0 outside 1 to 256");
 }
 
@@ -72,6 +74,7 @@ static void signed_sizes(int height, long entries)
 {
     expect(KES_TABLE_SIZE(height, height) == 712 && KES_SIGNATURE_SIZE(height, 2L) == 352, "sizes of heights that are int or long");
     expect(KES_FAIR_CACHE_SIZE(entries) == 388 && KES_FAIR_SEEDS_SIZE((int)entries) == 96, "sizes of a fair whose entries are long or int");
+    expect(KES_PLAIN_TABLE_SIZE(height) == 480 && KES_PLAIN_TABLE_SIZE(height - 3) == 0 && KES_PLAIN_TABLE_SIZE(-1L) == 0, "sizes of a plain tree whose height is int or long");
     expect(KES_TABLE_SIZE(-1L, 0) == 0 && KES_TABLE_SIZE(0, height - 3) == 0 && KES_TABLE_SIZE(entries - 4, 0) == 0, "no table below height 0");
     expect(KES_SIGNATURE_SIZE(-1L, 0) == 0 && KES_SIGNATURE_SIZE(0, height - 3) == 0 && KES_SIGNATURE_SIZE(0, entries - 4) == 0, "no signature below height 0");
     expect(KES_FAIR_CACHE_SIZE(height - 3) == 0 && KES_FAIR_CACHE_SIZE(INT64_MIN) == 0 && KES_FAIR_SEEDS_SIZE(entries - 4) == 0, "no fair below 1 entry");
@@ -281,6 +284,60 @@ static void fair_verifying(void)
     expect(fair_verify(N, N, 32, KES_MESSAGE_MAX + 1, 160) == KES_TOO_LONG, "then 7, before 6");
 }
 
+/* A plain tree of height 2 in table, from a seed of sevens. */
+static uint32_t plain_fill(void)
+{
+    clear(&seed);
+    clear(&table);
+    memset(in(&seed), 7, KES_SEED_SIZE);
+    return kes_plain_fill(2, in(&seed), KES_SEED_SIZE, in(&table), 480, &tally);
+}
+
+static void plain_filling(void)
+{
+    expect(plain_fill() == KES_DONE, "a plain table is filled");
+    expect(zero(in(&seed), KES_SEED_SIZE), "the lent seed is zero");
+    expect(guarded(&seed, KES_SEED_SIZE) && guarded(&table, 480), "filling writes nothing else");
+    memset(in(&seed), 7, KES_SEED_SIZE);
+    other = table;
+    expect(kes_plain_fill(9, NULL, 0, NULL, 0, &tally) == KES_HEIGHT, "height 9 is refused with 1");
+    expect(kes_plain_fill(((uint64_t)1 << 32) + 2, in(&seed), 32, in(&table), 480, &tally) == KES_HEIGHT, "no plain height wraps into a good one");
+    expect(kes_plain_fill(2, in(&seed), 31, in(&table), 479, &tally) == KES_SEED_OR_KEY, "a short seed is refused with 2, before 4");
+    expect(kes_plain_fill(2, in(&seed), 32, in(&table), 481, &tally) == KES_LENGTH, "a long table is refused with 4");
+    expect(memcmp(&other, &table, sizeof table) == 0 && in(&seed)[0] == 7, "a refused fill changes nothing");
+}
+
+static void plain_reading(void)
+{
+    plain_fill();
+    clear(&key);
+    clear(&signature);
+    other = table;
+    expect(kes_plain_root(2, in(&table), 480, in(&key), 32) == KES_DONE && memcmp(in(&key), in(&table), 32) == 0, "the root stands first");
+    expect(kes_plain_path(2, in(&table), 480, 3, in(&signature), 64) == KES_DONE, "a path is read");
+    expect(memcmp(in(&signature), in(&table) + 160, 32) == 0 && memcmp(in(&signature) + 32, in(&table) + 32, 32) == 0, "its witnesses are the siblings, from the leaf upwards");
+    expect(guarded(&key, 32) && guarded(&signature, 64) && memcmp(&other, &table, sizeof table) == 0, "reading writes what is read alone");
+    expect(kes_plain_root(9, NULL, 0, NULL, 0) == KES_HEIGHT && kes_plain_path(9, NULL, 0, 4, NULL, 0) == KES_HEIGHT, "1 comes first");
+    expect(kes_plain_root(2, in(&table), 479, in(&key), 32) == KES_LENGTH && kes_plain_root(2, in(&table), 480, in(&key), 31) == KES_LENGTH, "a wrong table or root is refused with 4");
+    expect(kes_plain_path(2, in(&table), 480, 4, in(&signature), 65) == KES_LENGTH && kes_plain_path(2, in(&table), 480, 4, in(&signature), 64) == KES_PAST_END, "4 comes before 6");
+    expect(kes_plain_path(0, in(&table), 96, 0, NULL, 0) == KES_DONE, "a tree of height 0 has a path of no byte");
+}
+
+static void plain_signing(void)
+{
+    uint8_t digest[32];
+    plain_fill();
+    clear(&signature);
+    expect(kes_plain_sign(2, in(&table), 480, 1, in(&message), 40, in(&signature), 160, &tally) == KES_DONE, "a leaf signs");
+    expect(guarded(&signature, 160), "a leaf's signing writes the signature alone");
+    expect(kes_hash(in(&signature), 32, digest, 32) == KES_DONE && memcmp(digest, in(&table) + 128, 32) == 0, "it begins with the leaf's vk");
+    other = signature;
+    expect(kes_plain_sign(2, in(&table), 480, 4, in(&message), KES_MESSAGE_MAX + 1, in(&signature), 161, &tally) == KES_LENGTH, "4 comes before 7");
+    expect(kes_plain_sign(2, in(&table), 480, 4, in(&message), KES_MESSAGE_MAX + 1, in(&signature), 160, &tally) == KES_TOO_LONG, "7 comes before 6");
+    expect(kes_plain_sign(2, in(&table), 480, 4, in(&message), 40, in(&signature), 160, &tally) == KES_PAST_END, "leaf 4 of 4 is refused with 6");
+    expect(memcmp(&other, &signature, sizeof signature) == 0, "a refused signing changes nothing");
+}
+
 /* Each asking of Ed25519 makes the tally one more; after 2^64 - 1 comes 0. */
 static void tallying(void)
 {
@@ -292,6 +349,8 @@ static void tallying(void)
     expect(kes_number(kes_move(in(&table), size, 7, &tally)) == KES_DONE && tally == 13, "moving inside the child asks for two keys");
     expect(kes_sign(in(&table), size, NULL, 0, in(&signature), kes_signature_size(H1, H2), &tally) == KES_DONE && tally == 14, "signing asks once");
     expect(fair_make() == KES_DONE && tally == 21, "making a cache of three asks seven times");
+    expect(plain_fill() == KES_DONE && tally == 25, "filling a plain tree of height 2 asks four times");
+    tally = 21;
     expect(kes_fair_sign(in(&cache), 388, NULL, 0, in(&signature), KES_FAIR_SIGNATURE_SIZE, &tally) == KES_DONE && tally == 22, "a cache's signing asks once");
     making();
     expect(tally == 29, "a refusal leaves the tally");
@@ -321,6 +380,9 @@ int main(int argc, char **argv)
     fair_making();
     fair_moving();
     fair_verifying();
+    plain_filling();
+    plain_reading();
+    plain_signing();
     tallying();
     wiping();
     if (failures == 0)

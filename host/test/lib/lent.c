@@ -163,7 +163,8 @@ static void take(const struct request *r, size_t i, enum edge edge, struct outco
 
 static int read_only(int op, size_t i)
 {
-    static const int lent_to_read[CALLS] = {[READ_KEY] = 1, [SIGN] = 3, [VERIFY] = 7, [HASH] = 1, [FAIR_SIGN] = 3, [FAIR_VERIFY] = 7};
+    static const int lent_to_read[CALLS] = {[READ_KEY] = 1, [SIGN] = 3, [VERIFY] = 7, [HASH] = 1, [FAIR_SIGN] = 3, [FAIR_VERIFY] = 7,
+        [PLAIN_ROOT] = 1, [PLAIN_PATH] = 1, [PLAIN_SIGN] = 3};
     return lent_to_read[op] >> i & 1;
 }
 
@@ -182,7 +183,11 @@ static uint64_t call(const struct request *r)
     case FAIR_MAKE: return kes_fair_make(r->h1, a, len[0], b, len[1], c, len[2], d, len[3], tally);
     case FAIR_MOVE: return kes_fair_move(a, len[0], r->step);
     case FAIR_SIGN: return kes_fair_sign(a, len[0], b, len[1], c, len[2], tally);
-    default: return kes_fair_verify(r->h1, a, len[0], r->step, b, len[1], c, len[2]);
+    case FAIR_VERIFY: return kes_fair_verify(r->h1, a, len[0], r->step, b, len[1], c, len[2]);
+    case PLAIN_FILL: return kes_plain_fill(r->h1, a, len[0], b, len[1], tally);
+    case PLAIN_ROOT: return kes_plain_root(r->h1, a, len[0], b, len[1]);
+    case PLAIN_PATH: return kes_plain_path(r->h1, a, len[0], r->step, b, len[1]);
+    default: return kes_plain_sign(r->h1, a, len[0], r->step, b, len[1], c, len[2], tally);
     }
 }
 

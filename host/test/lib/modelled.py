@@ -7,10 +7,13 @@ sys.path.insert(0, str(ROOT / "host" / "model"))
 import ed25519
 import fair
 import kes
+import plain
 import sodium
 from .library import ANSWERED, CATCH_UP, FAIR_MAKE, FAIR_MOVE, FAIR_SIGN, FAIR_VERIFY, HASH, LENT, MAKE, MOVE, READ_KEY, SIGN, VERIFY
+from .library import PLAIN_FILL, PLAIN_PATH, PLAIN_ROOT, PLAIN_SIGN
 
 NAMES = ["make", "read key", "move", "catch up", "sign", "verify", "hash", "fair make", "fair move", "fair sign", "fair verify"]
+NAMES += ["plain fill", "plain root", "plain path", "plain sign"]
 
 
 class Counted(kes.Module):
@@ -35,15 +38,15 @@ class Counted(kes.Module):
 
 
 class Model:
-    def __init__(self, ed=ed25519, scheme=kes.Scheme, cache=fair.Fair):
+    def __init__(self, ed=ed25519, scheme=kes.Scheme, cache=fair.Fair, engine=plain.Plain):
         self.module = Counted(ed)
-        self.scheme, self.fair = scheme(self.module), cache(self.module)
+        self.scheme, self.fair, self.plain = scheme(self.module), cache(self.module), engine(self.module)
 
     def call(self, op, h1, h2, step, buffers, module=ANSWERED):
         left = [bytearray(x) for x in buffers]
         a, b, c, d = left + [bytearray()] * (LENT - len(left))
         self.module.begin(*module)
-        s, f = self.scheme, self.fair
+        s, f, p = self.scheme, self.fair, self.plain
         number, count = {
             MAKE: lambda: s.make(h1, h2, a, b),
             READ_KEY: lambda: (s.read_key(a, b), 0),
@@ -56,6 +59,10 @@ class Model:
             FAIR_MOVE: lambda: (f.move(a, step), 0),
             FAIR_SIGN: lambda: (f.sign(a, b, c), 0),
             FAIR_VERIFY: lambda: (f.verify(h1, a, step, b, c), 0),
+            PLAIN_FILL: lambda: (p.fill(h1, a, b), 0),
+            PLAIN_ROOT: lambda: (p.root(h1, a, b), 0),
+            PLAIN_PATH: lambda: (p.path(h1, a, step, b), 0),
+            PLAIN_SIGN: lambda: (p.sign(h1, a, step, b, c), 0),
         }[op]()
         return number + (count << 32), [*self.module.asked, self.module.tally], [bytes(x) for x in left]
 

@@ -1,4 +1,4 @@
-/* stack: how far below its caller each call of kes.h reaches at heights 12 and 12 or with 256 entries, and that a thread with the least
+/* stack: how far below its caller each call of kes.h reaches at heights 12 and 12, with 256 entries or in a plain tree of height 8, and that a thread with the least
  * stack that kes.h allows can make them all. Each is the first call of its process, so what the dynamic linker and the Ed25519 library do once counts. */
 #define _GNU_SOURCE
 #include <pthread.h>
@@ -16,6 +16,7 @@ struct lent {
     uint8_t seed[KES_SEED_SIZE], fresh[KES_TABLE_MAX], table[KES_TABLE_MAX], key[KES_KEY_SIZE], digest[KES_DIGEST_SIZE];
     uint8_t message[KES_MESSAGE_MAX], signature[KES_SIGNATURE_MAX];
     uint8_t seeds[KES_FAIR_SEEDS_SIZE(N)], fair[KES_FAIR_CACHE_MAX], cache[KES_FAIR_CACHE_MAX], fair_key[KES_KEY_SIZE], sale[KES_FAIR_SIGNATURE_SIZE];
+    uint8_t tree[KES_PLAIN_TABLE_MAX], path[KES_PLAIN_PATH_SIZE(8)], lesson[KES_PLAIN_SIGNATURE_SIZE(8)];
     uint64_t step, answer, tally;
     size_t reach;
 };
@@ -94,6 +95,31 @@ static void fair_verify(void)
     l->answer = kes_fair_verify(N, l->fair_key, sizeof l->fair_key, 0, l->message, sizeof l->message, l->sale, sizeof l->sale);
 }
 
+static void plain_fill(void)
+{
+    HERE();
+    memset(l->seed, 7, sizeof l->seed);
+    l->answer = kes_plain_fill(KES_PLAIN_HEIGHT_MAX, l->seed, sizeof l->seed, l->tree, sizeof l->tree, &l->tally);
+}
+
+static void plain_root(void)
+{
+    HERE();
+    l->answer = kes_plain_root(KES_PLAIN_HEIGHT_MAX, l->tree, sizeof l->tree, l->key, sizeof l->key);
+}
+
+static void plain_path(void)
+{
+    HERE();
+    l->answer = kes_plain_path(KES_PLAIN_HEIGHT_MAX, l->tree, sizeof l->tree, 255, l->path, sizeof l->path);
+}
+
+static void plain_sign(void)
+{
+    HERE();
+    l->answer = kes_plain_sign(KES_PLAIN_HEIGHT_MAX, l->tree, sizeof l->tree, 255, l->message, sizeof l->message, l->lesson, sizeof l->lesson, &l->tally);
+}
+
 static const struct {
     const char *name;
     void (*run)(void);
@@ -113,6 +139,10 @@ static const struct {
     {"fair sign", fair_sign, 0},
     {"fair verify", fair_verify, 0},
     {"fair move to the last step", fair_move, N - 1},
+    {"plain fill", plain_fill, 0},
+    {"plain root", plain_root, 0},
+    {"plain path", plain_path, 0},
+    {"plain sign", plain_sign, 0},
 };
 
 enum { CALLS = sizeof calls / sizeof calls[0] };

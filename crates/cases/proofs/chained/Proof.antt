@@ -1,8 +1,8 @@
 use Prim.Native.Nat.{_-_, _≤_}
 use borrow.Author.Needs.{needs}
 use lib.ListN.{length}
-use Rattle.fair_cases.proofs.chained.Statement.{statement}
-use Rattle.fair_cases.proofs.chained.Tie as tie
+use Rattle.cases.proofs.chained.Statement.{statement}
+use Rattle.cases.proofs.chained.Tie as tie
 
 abbrev Inv-loop : tie.InvT-loop
 Inv-loop bytes chain₀ at₀ chain at = at ≤ length bytes
