@@ -1,4 +1,4 @@
-/* kes.h: an evolving signing key, a fair's cache of keys, and a plain engine to train by, for C99 and C++.
+/* kes.h: an evolving signing key, a fair's cache of keys, an index of cards, and a plain engine to train by, for C99 and C++.
  *
  * THE ORDER OF WORK. A move destroys the key of the step it leaves, so a desk keeps this order and no other:
  *     sign, store the record, write the chip, show "done", and only then move.
@@ -19,7 +19,8 @@
  *   - kes_make, kes_move and kes_catch_up answer a number and a count in one word: take them apart with kes_number and kes_count.
  *     When a make or a move is done the word is never 0, so `if (kes_move(..) == 0)` is always wrong; of a catch-up it is 0 where
  *     the key has stayed.
- *     The other calls, those of the fair and the plain engine too, answer the number alone.
+ *     The other calls, those of the fair and the plain engine too, answer the number alone;
+ *     those of the card index are told of below.
  */
 #ifndef KES_H
 #define KES_H
@@ -42,13 +43,16 @@ enum kes_numbers {
     KES_DONE = 0,         /* done, or accepted */
     KES_HEIGHT = 1,       /* a height above KES_HEIGHT_MAX, of the plain engine above KES_PLAIN_HEIGHT_MAX */
     KES_SEED_OR_KEY = 2,  /* seed or verification key not 32 bytes, a fair's seeds not 32 for each entry */
-    KES_TABLE = 3,        /* not a well-formed table or cache */
-    KES_LENGTH = 4,       /* output, signature or plain table not its exact length */
+    KES_TABLE = 3,        /* not a well-formed table, cache or card index */
+    KES_LENGTH = 4,       /* output, signature or plain table not its exact length, or not KES_CARDS entries */
     KES_NOT_LATER = 5,    /* new step not later than the table's or cache's */
     KES_PAST_END = 6,     /* step at or past kes_steps, a cache's entries, or a plain tree's leaves */
     KES_TOO_LONG = 7,     /* message, or bytes fed to the hash, above KES_MESSAGE_MAX */
     KES_ENTRIES = 8,      /* a fair's entries not 1 to KES_FAIR_MAX */
     KES_UNANSWERED = 9,   /* the module did not answer: only the tally has changed */
+    KES_FULL = 13,        /* a new card when KES_CARDS are held */
+    KES_CARD_OR_AMOUNT = 14, /* card or amount out of the journal's range */
+    KES_COUNT_FULL = 15,  /* the card's count is already 4,294,967,295 */
     KES_NOT_ACCEPTED = 100 /* verify: well formed, not accepted */
 };
 
@@ -167,6 +171,30 @@ KES_CHECKED uint32_t kes_plain_path(uint64_t h, const uint8_t *table, size_t tab
 
 /* Signs a message by a leaf, into 96 + 32h bytes: vk, Ed25519's signature, the witnesses. Refuses 1, 4, 7, 6, 9. */
 KES_CHECKED uint32_t kes_plain_sign(uint64_t h, const uint8_t *table, size_t table_len, uint64_t leaf, const uint8_t *message, size_t message_len, uint8_t *signature, size_t signature_len, uint64_t *tally);
+
+/* THE CARD INDEX. A table of KES_CARDS entries, of which the first `held` are in use: a card, how many good lines it has had, and the sum
+ * of their cents, in rising order of cards. Empty is held 0; the entries may then be anything, and those past `held` are never judged.
+ * Enter each line that `journal` calls good, and keep the number held beside the table. */
+#define KES_CARDS 1024u
+
+struct kes_card {
+    uint64_t card, count, cents;
+};
+
+/* Enters a good line's card (its 16 digits as a number) and cents. The table's first entries are then the summary of all lines entered
+ * since it was empty, whatever their order. Refuses 4, 3, 14, 15, 13, and changes nothing. The upper half of the answer is the number
+ * held now, 0 on any refusal.
+ *     uint64_t entered = kes_card_enter(cards, KES_CARDS, held, card, cents);
+ *     if (kes_number(entered) == KES_DONE) held = kes_held(entered); */
+KES_CHECKED uint64_t kes_card_enter(struct kes_card *cards, size_t n, uint64_t held, uint64_t card, uint64_t cents);
+
+/* Looks a card up. Refuses 4, 3, 14. The upper half of the answer is the place of its entry + 1, and 0 where there is none.
+ *     uint64_t found = kes_card_find(cards, KES_CARDS, held, card);
+ *     if (kes_number(found) == KES_DONE && kes_place(found) > 0) ... cards[kes_place(found) - 1] */
+KES_CHECKED uint64_t kes_card_find(const struct kes_card *cards, size_t n, uint64_t held, uint64_t card);
+
+static inline uint32_t kes_held(uint64_t answer) { return (uint32_t)(answer >> 32); }
+static inline uint32_t kes_place(uint64_t answer) { return (uint32_t)(answer >> 32); }
 
 /* NOT PROVED: C beside the proofs. Clears what the calls left behind below its caller: KES_STACK bytes of dead stack, and on
  * x86-64 and 64-bit Arm the registers that a call may leave as it likes. Call it after each call that makes, fills, moves or signs, the

@@ -1,5 +1,6 @@
 """Document 01's "Errors that look right", and some that only hostile input shows, each planted in the model, so that tests can show
-that a comparison notices it. Below them the same for the fair's cache and the plain engine."""
+that a comparison notices it. Below them the same for the fair's cache, the plain engine and the card index."""
+from cards import CARDS, Index, LAST_CARD, MOST_LINES
 from fair import ENTRY, Fair, fits
 from kes import DONE, LENGTH, TABLE, TALLEST, ZEROS, Scheme, read_body, read_header, signature_size, steps
 from plain import HIGHEST, Plain
@@ -243,3 +244,59 @@ class TooHigh(Plain):
 
 
 PLAIN = [HalvesSwapped, LeavesFirst, KeyBeforeSecret, PlainSeedLeft, OwnHash, NotHalved, WitnessesDown, LeafZero, LeafModulo, TooHigh]
+
+
+class RangeFirst(Index):
+    """A line out of range is refused 14 before a damaged index 3."""
+
+    def refused(self, table, held, fits):
+        return super().refused(table, held if fits or len(table) != CARDS else 0, fits)
+
+
+class RisingLoosely(Index):
+    """A card may be held twice."""
+
+    def strictly_rising(self, cards):
+        return all(a <= b for a, b in zip(cards, cards[1:]))
+
+
+class CardPastLast(Index):
+    """A card of 17 digits is in range."""
+
+    def in_range(self, card, cents):
+        return super().in_range(min(card, LAST_CARD), cents)
+
+
+class FullForAll(Index):
+    """A full index refuses a card that it holds."""
+
+    def enter(self, table, held, card, cents):
+        number, now, after = super().enter(table, held, card, cents)
+        return (13, 0, table) if number == DONE and held == CARDS else (number, now, after)
+
+
+class CountOneLess(Index):
+    """15 is given at a count of 4,294,967,294."""
+
+    def enter(self, table, held, card, cents):
+        number, now, after = super().enter(table, held, card, cents)
+        counts = [count for c, count, _ in after[:now] if c == card]
+        return (15, 0, table) if number == DONE and counts == [MOST_LINES] else (number, now, after)
+
+
+class AtTheEnd(Index):
+    """A new card goes behind all others."""
+
+    def noted(self, in_use, card, cents):
+        return super().noted(in_use, card, cents) if card in [c for c, _, _ in in_use] else [*in_use, (card, 1, cents)]
+
+
+class CentsKept(Index):
+    """The cents of a line more are not added."""
+
+    def noted(self, in_use, card, cents):
+        sums = {c: total for c, _, total in in_use}
+        return [(c, count, sums.get(c, total)) for c, count, total in super().noted(in_use, card, cents)]
+
+
+INDEX = [RangeFirst, RisingLoosely, CardPastLast, FullForAll, CountOneLess, AtTheEnd, CentsKept]

@@ -19,6 +19,7 @@ BEYOND = {
     "catching up": ["rules/CatchUp"],
     "the fair-day cache": ["fair/Day", "fair/Listed", "edge/EdgeFair"],
     "the plain engine": ["plain_rules/Equal", "plain_rules/Listed", "edge/EdgePlain"],
+    "what a card has had": ["summary/Listed", "summary/History", "edge/EdgeCards"],
     "one signature, one step": ["reuse/OneStep", "reuse/Singly"],
     "a header in full": ["headers/InFull"],
     "the running hash": ["blake2b/Running"],

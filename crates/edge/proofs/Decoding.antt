@@ -7,7 +7,7 @@ use native.Mathlib.Omega.{arith}
 use lib.Arith.{digits-div, digits-mod}
 use Rattle.refusal.specs.Numbers.{numberOf}
 use Rattle.refusal.specs.declared.Refusal.{Refusal}
-use Rattle.refusal.specs.declared.Refusal.the-variants.{Height, SeedOrKey, Table, Length, NotLater, PastEnd, TooLong, Entries, Unanswered}
+use Rattle.refusal.specs.declared.Refusal.the-variants.{Height, SeedOrKey, Table, Length, NotLater, PastEnd, TooLong, Entries, Unanswered, Full, CardOrAmount, CountFull}
 use Rattle.rules.specs.Answers.{Told, grownTold}
 use Rattle.rules.specs.Calls.{makeTallied, moveTallied, catchTallied}
 use Rattle.rules.specs.declared.Grown.{Grown}
@@ -18,7 +18,7 @@ use Rattle.rules.proofs.CatchingUp.{catch-tallied-done, catch-tallied-left}
 use Rattle.edge.specs.Edge.{toldWord, EdgeMakes, EdgeMoves, EdgeCatchesUp}
 
 -- no refusal has the number 0, and all are small
-in-range : (why : Refusal) → (0 < numberOf why) × (numberOf why ≤ 9)
+pub in-range : (why : Refusal) → (0 < numberOf why) × (numberOf why ≤ 15)
 in-range Height = (omega arith, omega arith)
 in-range SeedOrKey = (omega arith, omega arith)
 in-range Table = (omega arith, omega arith)
@@ -28,6 +28,9 @@ in-range PastEnd = (omega arith, omega arith)
 in-range TooLong = (omega arith, omega arith)
 in-range Entries = (omega arith, omega arith)
 in-range Unanswered = (omega arith, omega arith)
+in-range Full = (omega arith, omega arith)
+in-range CardOrAmount = (omega arith, omega arith)
+in-range CountFull = (omega arith, omega arith)
 
 low : (a : Grown) → grownTold a .number < 0x1_0000_0000
 low (Done n) = omega arith

@@ -5,6 +5,8 @@ use Prim.Native.Nat.{ℕ}
 use Rattle.edge.specs.Edge.{EdgeMakes, EdgeReads, EdgeMoves, EdgeCatchesUp, EdgeSigns, EdgeVerifies, EdgeHashes}
 use Rattle.edge.specs.EdgeFair.{EdgeFairMakes, EdgeFairMoves, EdgeFairSigns, EdgeFairVerifies}
 use Rattle.edge.specs.EdgePlain.{EdgeFills, EdgeReadsRoot, EdgeReadsPath, EdgePlainSigns}
+use Rattle.edge.specs.EdgeCards.{EdgeEnters, EdgeFinds}
+use Rattle.summary.specs.declared.CardEntry.{CardEntry}
 
 -- two values that are both a third
 joined : {A : Type 0} {x y z : A} → x ≡ z → y ≡ z → x ≡ y
@@ -114,3 +116,12 @@ plain-sign-once h d t m out n x y = (
   joined (x .leaves) (y .leaves),
   joined (x .tallies) (y .tallies),
 )
+
+-- the card index's two
+pub card-enter-once : (t : List CardEntry) (held card cents : ℕ) {a b : ℕ} {t₁ t₂ : List CardEntry} → EdgeEnters t held card cents a t₁
+    → EdgeEnters t held card cents b t₂ → (a ≡ b) × (t₁ ≡ t₂)
+card-enter-once t held card cents x y = (joined (x .answers) (y .answers), joined (x .leaves) (y .leaves))
+
+pub card-find-once : (t : List CardEntry) (held card : ℕ) {a b : ℕ} {t₁ t₂ : List CardEntry} → EdgeFinds t held card a t₁ → EdgeFinds t held card b t₂
+    → (a ≡ b) × (t₁ ≡ t₂)
+card-find-once t held card x y = (joined (x .answers) (y .answers), joined (x .keeps) (y .keeps))

@@ -1,6 +1,7 @@
 // The C edge: each answer as its number, on plain numbers and byte slices. include/kes.h declares these functions.
 ghost use Rattle.edge.specs.Edge.{EdgeCatchesUp, EdgeHashes, EdgeMakes, EdgeMoves, EdgeReads, EdgeSigns, EdgeVerifies};
 
+mod card_index;
 mod fair_day;
 mod numbers;
 mod plain_engine;

@@ -12,6 +12,9 @@ pub enum Refusal {
     TooLong,
     Entries,
     Unanswered,
+    Full,
+    CardOrAmount,
+    CountFull,
 }
 
 // What reading a key, signing, hashing and the calls of a fair day answer.
@@ -34,5 +37,8 @@ pub fn number(why: Refusal) -> u32
         Refusal::TooLong => 7,
         Refusal::Entries => 8,
         Refusal::Unanswered => 9,
+        Refusal::Full => 13,
+        Refusal::CardOrAmount => 14,
+        Refusal::CountFull => 15,
     }
 }

@@ -356,6 +356,31 @@ static void tallying(void)
     expect(tally == 29, "a refusal leaves the tally");
 }
 
+static void indexing(void)
+{
+    static struct kes_card cards[KES_CARDS + 1];
+    const uint64_t most = UINT32_MAX, last = UINT64_C(9999999999999999);
+    uint64_t held = 0;
+    memset(cards, FILL, sizeof cards);
+    expect(kes_card_find(cards, KES_CARDS, 0, 7) == 0, "an empty index has no card");
+    held = kes_held(kes_card_enter(cards, KES_CARDS, held, last, 2000000));
+    held = kes_held(kes_card_enter(cards, KES_CARDS, held, 7, 1));
+    expect(kes_card_enter(cards, KES_CARDS, held, last, 5) == (uint64_t)2 << 32, "a card more of two is two held");
+    expect(cards[0].card == 7 && cards[0].count == 1 && cards[0].cents == 1, "the lower card is first");
+    expect(cards[1].card == last && cards[1].count == 2 && cards[1].cents == 2000005, "a line more is added");
+    expect(kes_place(kes_card_find(cards, KES_CARDS, 2, last)) == 2 && kes_card_find(cards, KES_CARDS, 2, 8) == 0, "a card is found, or none");
+    expect(kes_card_enter(cards, KES_CARDS + 1, 2, 7, 1) == KES_LENGTH && kes_card_find(cards, 0, 0, 7) == KES_LENGTH, "1,024 entries are lent");
+    expect(kes_card_enter(cards, KES_CARDS, 3, 7, 0) == KES_TABLE && kes_card_find(cards, KES_CARDS, KES_CARDS + 1, 7) == KES_TABLE, "a damaged index is refused");
+    expect(kes_card_enter(cards, KES_CARDS, 2, last + 1, 1) == KES_CARD_OR_AMOUNT && kes_card_find(cards, KES_CARDS, 2, last + 1) == KES_CARD_OR_AMOUNT, "a card has 16 digits");
+    expect(kes_card_enter(cards, KES_CARDS, 2, 7, 0) == KES_CARD_OR_AMOUNT && kes_card_enter(cards, KES_CARDS, 2, 7, 2000001) == KES_CARD_OR_AMOUNT, "cents are 1 to 2,000,000");
+    cards[0].count = cards[0].cents = most;
+    expect(kes_card_enter(cards, KES_CARDS, 2, 7, 1) == KES_COUNT_FULL && cards[0].count == most, "a full count is refused");
+    for (held = 0; held < KES_CARDS; held++)
+        expect(kes_held(kes_card_enter(cards, KES_CARDS, held, last - held, 1)) == held + 1, "a card more is held");
+    expect(kes_card_enter(cards, KES_CARDS, held, 7, 1) == KES_FULL, "a 1,025th card is refused");
+    expect(cards[KES_CARDS].card == cards[KES_CARDS].cents && cards[KES_CARDS].card == UINT64_C(0xa5a5a5a5a5a5a5a5), "nothing past the table is written");
+}
+
 static void wiping(void)
 {
     make();
@@ -384,6 +409,7 @@ int main(int argc, char **argv)
     plain_reading();
     plain_signing();
     tallying();
+    indexing();
     wiping();
     if (failures == 0)
         puts("kes_test: every call answers as it must");

@@ -163,8 +163,8 @@ static void take(const struct request *r, size_t i, enum edge edge, struct outco
 
 static int read_only(int op, size_t i)
 {
-    static const int lent_to_read[CALLS] = {[READ_KEY] = 1, [SIGN] = 3, [VERIFY] = 7, [HASH] = 1, [FAIR_SIGN] = 3, [FAIR_VERIFY] = 7,
-        [PLAIN_ROOT] = 1, [PLAIN_PATH] = 1, [PLAIN_SIGN] = 3};
+    static const int lent_to_read[ALL_CALLS] = {[READ_KEY] = 1, [SIGN] = 3, [VERIFY] = 7, [HASH] = 1, [FAIR_SIGN] = 3, [FAIR_VERIFY] = 7,
+        [PLAIN_ROOT] = 1, [PLAIN_PATH] = 1, [PLAIN_SIGN] = 3, [CARD_FIND] = 1};
     return lent_to_read[op] >> i & 1;
 }
 
@@ -187,7 +187,9 @@ static uint64_t call(const struct request *r)
     case PLAIN_FILL: return kes_plain_fill(r->h1, a, len[0], b, len[1], tally);
     case PLAIN_ROOT: return kes_plain_root(r->h1, a, len[0], b, len[1]);
     case PLAIN_PATH: return kes_plain_path(r->h1, a, len[0], r->step, b, len[1]);
-    default: return kes_plain_sign(r->h1, a, len[0], r->step, b, len[1], c, len[2], tally);
+    case PLAIN_SIGN: return kes_plain_sign(r->h1, a, len[0], r->step, b, len[1], c, len[2], tally);
+    case CARD_ENTER: return kes_card_enter((struct kes_card *)(void *)a, len[0] / sizeof(struct kes_card), r->h1, r->h2, r->step);
+    default: return kes_card_find((const struct kes_card *)(const void *)a, len[0] / sizeof(struct kes_card), r->h1, r->h2);
     }
 }
 
@@ -227,7 +229,7 @@ static int same(const struct request *r, const struct outcome *a, const struct o
 void lend(const struct request *r, struct outcome *o)
 {
     static struct outcome again;
-    if (r->op < 0 || r->op >= CALLS)
+    if (r->op < 0 || r->op >= ALL_CALLS)
         stop("lent: an unknown call\n");
     lend_at(r, PAGE_AFTER, KES_DONE, o);
     lend_at(r, PAGE_BEFORE, kes_number(o->answer), &again);

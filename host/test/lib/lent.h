@@ -13,6 +13,8 @@
 #include <stdint.h>
 
 enum { MAKE, READ_KEY, MOVE, CATCH_UP, SIGN, VERIFY, HASH, FAIR_MAKE, FAIR_MOVE, FAIR_SIGN, FAIR_VERIFY, PLAIN_FILL, PLAIN_ROOT, PLAIN_PATH, PLAIN_SIGN, CALLS };
+/* the card index: held, card and cents are h1, h2 and step, and the first buffer is the table */
+enum { CARD_ENTER = CALLS, CARD_FIND, ALL_CALLS };
 /* whole pages, with room for the largest cache and more */
 enum { LENT = 4, MOST = 36864 };
 

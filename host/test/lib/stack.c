@@ -17,6 +17,7 @@ struct lent {
     uint8_t message[KES_MESSAGE_MAX], signature[KES_SIGNATURE_MAX];
     uint8_t seeds[KES_FAIR_SEEDS_SIZE(N)], fair[KES_FAIR_CACHE_MAX], cache[KES_FAIR_CACHE_MAX], fair_key[KES_KEY_SIZE], sale[KES_FAIR_SIGNATURE_SIZE];
     uint8_t tree[KES_PLAIN_TABLE_MAX], path[KES_PLAIN_PATH_SIZE(8)], lesson[KES_PLAIN_SIGNATURE_SIZE(8)];
+    struct kes_card cards[KES_CARDS];
     uint64_t step, answer, tally;
     size_t reach;
 };
@@ -120,6 +121,18 @@ static void plain_sign(void)
     l->answer = kes_plain_sign(KES_PLAIN_HEIGHT_MAX, l->tree, sizeof l->tree, 255, l->message, sizeof l->message, l->lesson, sizeof l->lesson, &l->tally);
 }
 
+static void card_enter(void)
+{
+    HERE();
+    l->answer = kes_card_enter(l->cards, KES_CARDS, 0, 1, 1);
+}
+
+static void card_find(void)
+{
+    HERE();
+    l->answer = kes_card_find(l->cards, KES_CARDS, 1, 1);
+}
+
 static const struct {
     const char *name;
     void (*run)(void);
@@ -143,6 +156,8 @@ static const struct {
     {"plain root", plain_root, 0},
     {"plain path", plain_path, 0},
     {"plain sign", plain_sign, 0},
+    {"card enter", card_enter, 0},
+    {"card find", card_find, 0},
 };
 
 enum { CALLS = sizeof calls / sizeof calls[0] };
