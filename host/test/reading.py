@@ -12,8 +12,8 @@ LIST = {
     "demand 2, the bytes and verdicts": ["rules/Part", "rules/Sums"],
     "demand 1, the calls and their numbers": ["rules/Calls", "rules/Listed", "edge/Edge"],
     "demand 3, moved about": ["rules/Demand3"],
-    "the journal, the whole output": ["ledger/Output"],
-    "the journal, in pieces": ["ledger/Feeding"],
+    "the journal, the whole output": ["verdicts/Output"],
+    "the journal, in pieces": ["verdicts/Turning"],
 }
 BEYOND = {
     "catching up": ["rules/CatchUp"],

@@ -1,29 +1,31 @@
 -- MEANING: what is written of a journal is judged now as the journal found was judged before.
 use mathlib.Core.Path.{_≡_, refl, sym, ap, _∙_}
 use mathlib.Core.Logic.{⊎-elim}
-use mathlib.Core.List.{List, [], _∷_, _++_, append-nil}
+use mathlib.Core.List.{List, [], _∷_, _++_}
 use mathlib.Core.Bool.{Bool, true, false}
-use Prim.Native.Nat.{ℕ, _+_, _-_, _<_}
+use Prim.Native.Nat.{ℕ, _+_, _-_, _≤_, _<_}
 use native.Mathlib.Omega.{arith}
 use lib.ListN.{length, take}
-use lib.Seq.{take-nil}
+use lib.Seq.{take-nil, take-all, length-take-le}
 use Rattle.fields.specs.Tests.{pick}
 use Rattle.fields.proofs.Cases.{side}
 use Rattle.text.specs.Columns.{upTo, columns}
 use Rattle.text.specs.Hex.{isHexOf}
 use Rattle.text.specs.Numerals.{every, isDigit, valueFrom, digitsUpTo, noLeadingZero, numberIn}
 use Rattle.text.specs.declared.Number.the-variants.{Value}
-use Rattle.lines.specs.Lines.{Line, whole, unended, ended, linesAfter, lastLine, linesOf}
-use Rattle.lines.proofs.First.{NoLf, begins, up-to-lf}
-use Rattle.lines.proofs.Law.{last-line, goes-on, ended-whole, ended-long}
+use Rattle.lines.specs.Lines.{Line, whole, unended, bytesIn, ended, kept, lastIn, linesAfter, lastLine, linesOf}
+use Rattle.lines.proofs.First.{NoLf, begins, up-to-lf, no-lf, none-found}
+use Rattle.lines.proofs.Buffer.{kept-short}
+use Rattle.lines.proofs.Law.{last-line, ended-whole, ended-long}
 use Rattle.records.specs.declared.Edition.{Edition}
 use Rattle.records.specs.declared.KeyHeights.{KeyHeights}
 use Rattle.records.specs.declared.reading.Word.{Word}
 use Rattle.records.specs.declared.reading.Word.the-variants.{Says, Unknown}
-use Rattle.records.specs.FirstLine.{Head, wrongHead, wordOf, editionIn, said, shortHeights, headWith, headInBy, headIn}
-use Rattle.ledger.specs.Output.{wrongHeader, under, headBy, reportedBy, reportBy, journalReport}
-use Rattle.ledger.proofs.Taking.{take-first}
-use Rattle.headers.specs.InFull.{sixes, isRight, placeIn, placeOf, inFull}
+use Rattle.records.specs.FirstLine.{Head, rightHead, wrongHead, wordOf, editionIn, said, shortHeights, headWith, headInBy, headIn}
+use Rattle.judging.specs.declared.Order.{Order}
+use Rattle.ledger.specs.Meeting.{headless, headBy, metUnder, metOf, metInBy, metIn}
+use Rattle.ledger.proofs.Law.{take-first}
+use Rattle.headers.specs.InFull.{sixes, isRight, placeIn, placeOf, inFull, belowHeader}
 use Rattle.headers.specs.declared.Place.{Place}
 use Rattle.headers.specs.declared.Place.the-variants.{Behind, Nowhere}
 use Rattle.headers.proofs.Found.{short, full, says, word-fields, full-fields, place-line, found, short-size, full-size, short-free, full-free, in-full}
@@ -66,51 +68,62 @@ columns-same (a ∷ b ∷ c ∷ []) e = refl
 columns-same (a ∷ b ∷ c ∷ d ∷ []) e = refl
 columns-same (a ∷ b ∷ c ∷ d ∷ f ∷ r) e = refl
 
-line-same : (l : List ℕ) → placeIn (columns l) ≡ Nowhere → headBy sixes (ended l) ≡ headBy shortHeights (ended l)
-unfolding headBy
-line-same l e = ⊎-elim (λ h. rw (ended-whole l h) (columns-same (columns l) e)) (λ h. rw (ended-long l h)) (side (length l) 2048)
+line-same : (l : List ℕ) → placeIn (columns l) ≡ Nowhere → headBy sixes (ended (kept l)) ≡ headBy shortHeights (ended (kept l))
+unfolding headBy kept
+line-same l e = ⊎-elim
+    (λ h. rw (take-all 2048 l (let z : length l ≤ 2048 = omega arith in z)) (rw (ended-whole l h) (columns-same (columns l) e)))
+    (λ h. rw (ended-long (take 2048 l) (rw (length-take-le 2048 l h) (omega arith))))
+    (side (length l) 2048)
 
--- REPORTS, by their first line
-report-first : (s : Edition → KeyHeights) (l : Line) (ls : List Line) → reportedBy s (take lastLine (l ∷ ls)) ≡ under (headBy s l) (take (lastLine + 1 - 2) ls)
-unfolding reportedBy
-report-first s l ls = ap (reportedBy s) (take-first lastLine l ls (omega (arith, last-line)))
+-- LINES MET, by their first line
+met-first : (o : Order) (s : Edition → KeyHeights) (l : Line) (ls : List Line) → metOf o s (take lastLine (l ∷ ls)) ≡ metUnder o (headBy s l) (bytesIn l) (take (lastLine + 1 - 2) ls)
+unfolding metOf
+met-first o s l ls = ap (metOf o s) (take-first lastLine l ls (omega (arith, last-line)))
 
-report-unended : (s : Edition → KeyHeights) (x : List ℕ) → reportedBy s (take lastLine (linesAfter x [])) ≡ wrongHeader
-unfolding linesAfter reportedBy headBy
-report-unended s [] = rw (take-nil {A = Line} lastLine)
-report-unended s (y ∷ x) = report-first s unended []
+met-unended : (o : Order) (s : Edition → KeyHeights) (x : List ℕ) → metOf o s (take lastLine (lastIn x)) ≡ headless ∷ []
+unfolding metOf headBy
+met-unended o s [] = rw (take-nil {A = Line} lastLine)
+met-unended o s (y ∷ x) = met-first o s (unended (y ∷ x)) []
 
-report-nowhere : (x : List ℕ) → placeOf x ≡ Nowhere → reportBy sixes x ≡ reportBy shortHeights x
-unfolding reportBy linesOf
-report-nowhere x e = ⊎-elim
+met-nowhere : (o : Order) (x : List ℕ) → placeOf x ≡ Nowhere → metInBy o sixes x ≡ metInBy o shortHeights x
+unfolding metInBy linesOf
+met-nowhere o x e = ⊎-elim
     (λ h.
     let b = begins x h in
-    let lines : linesAfter [] x ≡ ended (b .line) ∷ linesAfter [] (b .more) = ap (linesAfter []) (b .is) ∙ up-to-lf [] (b .line) (b .more) (b .free) in
+    let l = ended (kept (b .line)) in
+    let lines : linesAfter [] x ≡ l ∷ linesAfter [] (b .more) = ap (linesAfter []) (b .is) ∙ up-to-lf [] (b .line) (b .more) (omega arith) (b .free) in
     let n : placeIn (columns (b .line)) ≡ Nowhere = sym (place-line (b .line) (b .more) (b .free)) ∙ ap placeOf (sym (b .is)) ∙ e in
-    rw lines (report-first sixes (ended (b .line)) _ ∙ rw (line-same (b .line) n) (sym (report-first shortHeights (ended (b .line)) _))))
+    rw lines (met-first o sixes l _ ∙ rw (line-same (b .line) n) (sym (met-first o shortHeights l _))))
     (λ h.
-    let lines : linesAfter [] x ≡ linesAfter x [] = ap (linesAfter []) (sym (append-nil x)) ∙ goes-on [] x [] h in
-    rw lines (report-unended sixes x ∙ sym (report-unended shortHeights x)))
+    let lines : linesAfter [] x ≡ lastIn (kept x) = no-lf x (none-found x h) in
+    rw lines (met-unended o sixes (kept x) ∙ sym (met-unended o shortHeights (kept x))))
     (side (upTo 10 x) (length x))
 
 whole-first : (l more : List ℕ) → NoLf l → length l < 2048 → linesAfter [] (l ++ (10 ∷ more)) ≡ whole l ∷ linesAfter [] more
-whole-first l more f h = up-to-lf [] l more f ∙ rw (ended-whole l h)
+whole-first l more f h = up-to-lf [] l more (omega arith) f ∙ rw (kept-short l (omega arith), ended-whole l h)
 
-report-behind : (x : List ℕ) {p : ℕ} → placeOf x ≡ Behind p → reportBy sixes x ≡ reportBy shortHeights (inFull x)
-unfolding reportBy linesOf
-report-behind x e =
+below-same : (o : Order) (x : Head) (a b : List ℕ) (ls : List Line) → belowHeader (metUnder o x a ls) ≡ belowHeader (metUnder o x b ls)
+below-same o wrongHead a b ls = refl
+below-same o (rightHead h) a b ls = refl
+
+met-behind : (o : Order) (x : List ℕ) {p : ℕ} → placeOf x ≡ Behind p → belowHeader (metInBy o sixes x) ≡ belowHeader (metInBy o shortHeights (inFull x))
+unfolding metInBy linesOf
+met-behind o x e =
     let f = found x e in
-    let before-lines = ap (linesAfter []) (f .is) ∙ whole-first (short (f .edition) (f .key)) (f .more) (short-free f) (omega (arith, short-size f)) in
-    let now-lines = ap (linesAfter []) (in-full f e) ∙ whole-first (full (f .edition) (f .key)) (f .more) (full-free f) (omega (arith, full-size f)) in
+    let was = short (f .edition) (f .key) in
+    let is = full (f .edition) (f .key) in
+    let before-lines = ap (linesAfter []) (f .is) ∙ whole-first was (f .more) (short-free f) (omega (arith, short-size f)) in
+    let now-lines = ap (linesAfter []) (in-full f e) ∙ whole-first is (f .more) (full-free f) (omega (arith, full-size f)) in
     rw (before-lines, now-lines)
-    (report-first sixes (whole (short (f .edition) (f .key))) _
-    ∙ rw (head-same (f .edition) (f .key) (f .one)) (sym (report-first shortHeights (whole (full (f .edition) (f .key))) _)))
+    (ap belowHeader (met-first o sixes (whole was) _)
+    ∙ rw (head-same (f .edition) (f .key) (f .one)) (below-same o (headBy shortHeights (whole is)) was is _)
+    ∙ sym (ap belowHeader (met-first o shortHeights (whole is) _)))
 
 -- MEANS THE SAME: written out, a journal is judged now as the one found was judged before
-means-by : (x : List ℕ) (q : Place) → placeOf x ≡ q → reportBy sixes x ≡ journalReport (inFull x)
+means-by : (o : Order) (x : List ℕ) (q : Place) → placeOf x ≡ q → belowHeader (metInBy o sixes x) ≡ belowHeader (metIn o (inFull x))
 unfolding inFull
-means-by x (Behind p) e = report-behind x e
-means-by x Nowhere e = rw e (report-nowhere x e)
+means-by o x (Behind p) e = met-behind o x e
+means-by o x Nowhere e = rw e (ap belowHeader (met-nowhere o x e))
 
-pub means-the-same : (x : List ℕ) → reportBy sixes x ≡ journalReport (inFull x)
-means-the-same x = means-by x (placeOf x) refl
+pub means-the-same : (o : Order) (x : List ℕ) → belowHeader (metInBy o sixes x) ≡ belowHeader (metIn o (inFull x))
+means-the-same o x = means-by o x (placeOf x) refl

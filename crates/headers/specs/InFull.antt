@@ -10,6 +10,7 @@ use Rattle.text.specs.Columns.{upTo, columns}
 use Rattle.records.specs.FirstLine.{Head, rightHead, wrongHead, headIn}
 use Rattle.records.specs.declared.Edition.{Edition}
 use Rattle.records.specs.declared.KeyHeights.{KeyHeights}
+use Rattle.ledger.specs.Meeting.{Met, begun, headless, numbered}
 use Rattle.headers.specs.declared.Place.{Place}
 use Rattle.headers.specs.declared.Place.the-variants.{Behind, Nowhere}
 
@@ -44,3 +45,10 @@ putIn Nowhere x = x
 -- THE INPUT IN FULL
 unfoldable pub inFull : List ℕ → List ℕ
 inFull x = putIn (placeOf x) x
+
+-- the lines met, but for the text of line 1
+abbrev pub belowHeader : List Met → List Met
+belowHeader [] = []
+belowHeader (begun l ∷ ms) = begun [] ∷ ms
+belowHeader (headless ∷ ms) = headless ∷ ms
+belowHeader (numbered n l j ∷ ms) = numbered n l j ∷ ms

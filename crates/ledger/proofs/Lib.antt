@@ -1,4 +1,4 @@
-pub mod Taking
-pub mod Pieces
+pub mod Phases
+pub mod Parts
+pub mod Steps
 pub mod Law
-pub mod Example

@@ -1,11 +1,12 @@
 // What the program journal is not run on: a journal that is held whole, and one whose next line is the last but one that is read.
 ghost use mathlib.Core.Path.{_≡_};
 ghost use lib.ListN.{length};
+use judging::Books;
+use judging::Order;
 use ledger::Phase;
 use ledger::Stream;
 use libc::STDIN_FILENO;
 use libc::STDOUT_FILENO;
-use verdicts::Books;
 
 fn main() {
     show_whole();
@@ -23,7 +24,7 @@ fn show_whole() {
     if 2048 < n {
         return;
     }
-    let end = ledger::judge_all(&input[0..n], &mut line[0..2048], &mut out);
+    let end = verdicts::judge_all(&input[0..n], &mut line[0..2048], &mut out);
     io::write_all(STDOUT_FILENO, &out[0..end]);
 }
 
@@ -32,7 +33,7 @@ fn show_last(line: &mut [u8], out: &mut [u8])
     requires { ⌜ (length (now line) ≡ 2048) × (length (now out) ≡ 65536) ⌝ }
 {
     let head = b"kes\t0\t0\t0000000000000000000000000000000000000000000000000000000000000000\n";
-    let first = ledger::feed(ledger::new(), head, line, out, 0);
+    let first = verdicts::feed(ledger::new(Order::Strict), head, line, out, 0);
     let begun = first.stream;
     let phase = begun.phase;
     let Phase::Body(_) = phase else {
@@ -41,6 +42,7 @@ fn show_last(line: &mut [u8], out: &mut [u8])
     let header = begun.header;
     let size = begun.size;
     let late = Stream {
+        order: Order::Strict,
         phase: Phase::Body(Books {
             number: 4294967294,
             step: 0,
@@ -51,9 +53,9 @@ fn show_last(line: &mut [u8], out: &mut [u8])
         header,
         size,
     };
-    let fed = ledger::feed(late, b"x\nx\nx\n", line, out, 0);
+    let fed = verdicts::feed(late, b"x\nx\nx\n", line, out, 0);
     let rest = fed.stream;
     let at = fed.at;
-    let end = ledger::finish(rest, out, at);
+    let end = verdicts::finish(rest, out, at);
     io::write_all(STDOUT_FILENO, &out[0..end]);
 }

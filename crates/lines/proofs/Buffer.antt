@@ -5,10 +5,11 @@ use mathlib.Core.List.{List, _++_, append-assoc}
 use Prim.Native.Nat.{ℕ, _+_, _-_, _≤_}
 use native.Mathlib.Omega.{arith}
 use lib.ListN.{length, take, drop, length-append, length-take}
-use lib.Seq.{take-all, take-append-le, take-append-add, take-take, take-at, length-take-le}
+use lib.Seq.{take-all, take-append-le, take-append-add, drop-append-add, drop-drop, take-take, take-at, length-take-le}
 use Rattle.fields.proofs.Cases.{side}
 use Rattle.text.specs.Digits.{Puts}
-use Rattle.lines.specs.Inside.{kept, Holds}
+use Rattle.lines.specs.Lines.{kept}
+use Rattle.lines.specs.Inside.{Holds, overFront}
 
 pub kept-short : (l : List ℕ) → length l ≤ 2048 → kept l ≡ l
 unfolding kept
@@ -30,6 +31,17 @@ kept-length l = simp length-take (omega arith)
 -- the buffer's front is what is kept
 pub take-kept : {line bytes line′ : List ℕ} {held r : ℕ} → Holds line held bytes r line′ → take r line′ ≡ kept (take held line ++ bytes)
 take-kept {line} {bytes} {line′} {held} {r} k = rw (k .leaves) (take-at (kept (take held line ++ bytes)) (drop r line) r (sym (k .answers)))
+
+pub holds-over : {line bytes line′ : List ℕ} {held r : ℕ} → Holds line held bytes r line′ → line′ ≡ overFront line (kept (take held line ++ bytes))
+unfolding overFront
+holds-over k = k .leaves ∙ rw (k .answers)
+
+-- bytes over the front hide fewer that were there
+pub over-again : (line a b : List ℕ) → length a ≤ length b → overFront (overFront line a) b ≡ overFront line b
+unfolding overFront
+over-again line a b h =
+    let e : length b ≡ length a + (length b - length a) = omega arith in
+    rw (e, drop-append-add a (drop (length a) line) (length b - length a), drop-drop)
 
 module _ (line : List ℕ) (held : ℕ) (room : length line ≡ 2048) (le : held ≤ 2048) where
   front : length (take held line) ≡ held

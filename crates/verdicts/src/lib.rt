@@ -1,32 +1,27 @@
-// What one line of a top-up journal is worth, after those before it, and how that is written.
-mod judging;
+// What the program journal writes of the lines met, and when: after each piece, and at the end.
+mod feeding;
 mod printing;
-mod signing;
+mod turning;
 
-pub use judging::books_after;
-pub use judging::judge;
+pub use feeding::feed;
+pub use feeding::finish;
+use ledger::Stream;
 pub use printing::letter;
 pub use printing::put_line;
 pub use printing::put_total;
 pub use printing::put_wrong;
-use records::Record;
-pub use signing::is_accepted;
-pub use signing::put_message;
+pub use turning::judge_all;
+pub use turning::turn;
 
-// A judged line: M, O, S, B, G.
-pub enum Judged {
-    Malformed,
-    StepBelow(Record),
-    OtherSerial(Record),
-    NotAccepted(Record),
-    Good(Record),
+// A stream after more was read, and where its output ends.
+pub struct Written {
+    pub stream: Stream,
+    pub at: usize,
 }
 
-// What the lines before leave: the next line's number, the last good step and serial, the count and sum of good lines.
-pub struct Books {
-    pub number: u64,
-    pub step: u64,
-    pub serial: u64,
-    pub count: u64,
-    pub cents: u64,
+// The same after a turn of the program's loop, and whether it was the last.
+pub struct Turned {
+    pub stream: Stream,
+    pub at: usize,
+    pub over: bool,
 }

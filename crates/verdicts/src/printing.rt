@@ -4,8 +4,7 @@ ghost use Prim.Native.Nat.{_+_, _≤_};
 ghost use lib.ListN.{length};
 ghost use Rattle.text.specs.Digits.{Puts};
 ghost use Rattle.verdicts.specs.Printing.{letterOf, verdictLine, totalLine, wrongLine};
-use crate::Books;
-use crate::Judged;
+use judging::Judged;
 use text::put;
 use text::put_number;
 
@@ -32,15 +31,15 @@ pub fn put_line(out: &mut [u8], at: usize, number: u64, judged: Judged) -> usize
 }
 
 // The last line: `total`, the count of good lines, the sum of their cents.
-pub fn put_total(out: &mut [u8], at: usize, books: Books) -> usize
+pub fn put_total(out: &mut [u8], at: usize, count: u64, cents: u64) -> usize
     requires { ⌜ at + 48 ≤ length (now out) ⌝ }
-    ensures { λ r. ⌜ Puts (now (out .entry)) at (totalLine books) r (now (out .exit)) ⌝ }
+    ensures { λ r. ⌜ Puts (now (out .entry)) at (totalLine count cents) r (now (out .exit)) ⌝ }
 {
     let total = [116, 111, 116, 97, 108, 9];
-    let count = put(out, at, &total);
-    let tab = put_number(out, count, books.count);
-    let cents = put(out, tab, &[9]);
-    let end = put_number(out, cents, books.cents);
+    let first = put(out, at, &total);
+    let tab = put_number(out, first, count);
+    let second = put(out, tab, &[9]);
+    let end = put_number(out, second, cents);
     put(out, end, &[10])
 }
 

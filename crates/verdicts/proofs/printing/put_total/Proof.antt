@@ -6,25 +6,25 @@ use Rattle.verdicts.proofs.printing.put_total.Statement.{statement}
 use Rattle.verdicts.proofs.printing.put_total.Tie as tie
 
 put-number-requires : tie.Need-put-number-requires
-put-number-requires c κs = omega (arith, decimal-length (c .before .before .before .before .before .before .before .args .books .count), c .before .before .before .put .ensures .0 .ends)
+put-number-requires c κs = omega (arith, decimal-length (c .before .before .before .before .before .before .before .args .count), c .before .before .before .put .ensures .0 .ends)
 
 put-requires-2 : tie.Need-put-requires-2
 put-requires-2 c κs =
-    omega (arith, decimal-length (c .before .before .before .before .before .before .before .before .before .before .before .before .args .books .count), c .before .before .before .before .before .before .before .before .put .ensures .0 .ends, c .before .before .before .before .put-number .ensures .ends)
+    omega (arith, decimal-length (c .before .before .before .before .before .before .before .before .before .before .before .before .args .count), c .before .before .before .before .before .before .before .before .put .ensures .0 .ends, c .before .before .before .before .put-number .ensures .ends)
 
 put-number-requires-2 : tie.Need-put-number-requires-2
 put-number-requires-2 c κs =
-    let b = c .before .before .before .before .before .before .before .before .before .before .before .before .before .before .before .before .args .books in
-    omega (arith, decimal-length (b .count), decimal-length (b .cents), c .before .before .before .before .before .before .before .before .before .before .before .before .put .ensures .0 .ends, c .before .before .before .before .before .before .before .before .put-number .ensures .ends, c .before .before .before .put2 .ensures .0 .ends)
+    let a = c .before .before .before .before .before .before .before .before .before .before .before .before .before .before .before .before .args in
+    omega (arith, decimal-length (a .count), decimal-length (a .cents), c .before .before .before .before .before .before .before .before .before .before .before .before .put .ensures .0 .ends, c .before .before .before .before .before .before .before .before .put-number .ensures .ends, c .before .before .before .put2 .ensures .0 .ends)
 
 put-requires-3 : tie.Need-put-requires-3
 put-requires-3 c κs =
-    let b = c .before .before .before .before .before .before .before .before .before .before .before .before .before .before .before .before .before .before .before .before .before .args .books in
-    omega (arith, decimal-length (b .count), decimal-length (b .cents), c .before .before .before .before .before .before .before .before .before .before .before .before .before .before .before .before .before .put .ensures .0 .ends, c .before .before .before .before .before .before .before .before .before .before .before .before .before .put-number .ensures .ends, c .before .before .before .before .before .before .before .before .put2 .ensures .0 .ends, c .before .before .before .before .put-number2 .ensures .ends)
+    let a = c .before .before .before .before .before .before .before .before .before .before .before .before .before .before .before .before .before .before .before .before .before .args in
+    omega (arith, decimal-length (a .count), decimal-length (a .cents), c .before .before .before .before .before .before .before .before .before .before .before .before .before .before .before .before .before .put .ensures .0 .ends, c .before .before .before .before .before .before .before .before .before .before .before .before .before .put-number .ensures .ends, c .before .before .before .before .before .before .before .before .put2 .ensures .0 .ends, c .before .before .before .before .put-number2 .ensures .ends)
 
 returns : tie.Need-returns
 returns c =
-    puts-total (c .before .before .before .before .before .before .before .before .before .before .before .before .before .before .before .before .before .before .before .before .before .before .before .before .args .books) (omega (arith, c .before .before .before .before .before .before .before .before .before .before .before .before .before .before .before .before .before .before .before .before .before .before .before .before .pre)) (c .before .before .before .before .before .before .before .before .before .before .before .before .before .before .before .before .before .before .before .before .put .ensures .0) (c .before .before .before .before .before .before .before .before .before .before .before .before .before .before .before .before .put-number .ensures) (c .before .before .before .before .before .before .before .before .before .before .before .put2 .ensures .0) (c .before .before .before .before .before .before .before .put-number2 .ensures)
+    puts-total (c .before .before .before .before .before .before .before .before .before .before .before .before .before .before .before .before .before .before .before .before .before .before .before .before .args .count) (c .before .before .before .before .before .before .before .before .before .before .before .before .before .before .before .before .before .before .before .before .before .before .before .before .args .cents) (omega (arith, c .before .before .before .before .before .before .before .before .before .before .before .before .before .before .before .before .before .before .before .before .before .before .before .before .pre)) (c .before .before .before .before .before .before .before .before .before .before .before .before .before .before .before .before .before .before .before .before .put .ensures .0) (c .before .before .before .before .before .before .before .before .before .before .before .before .before .before .before .before .put-number .ensures) (c .before .before .before .before .before .before .before .before .before .before .before .put2 .ensures .0) (c .before .before .before .before .before .before .before .put-number2 .ensures)
     (c .before .before .put3 .ensures .0)
 
 pub put-total-spec : {M : Type 1} → statement M
