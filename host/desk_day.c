@@ -34,7 +34,7 @@ static int make(const char *folder, const char *first, const char *second)
     uint64_t h1, h2;
     if (!get_number(&h1, first, "") || !get_number(&h2, second, ""))
         return usage();
-    desk_make(folder, h1, h2);
+    desk_make(folder, h1, h2, 1);
     return 0;
 }
 

@@ -50,6 +50,9 @@ enum kes_numbers {
     KES_TOO_LONG = 7,     /* message, or bytes fed to the hash, above KES_MESSAGE_MAX */
     KES_ENTRIES = 8,      /* a fair's entries not 1 to KES_FAIR_MAX */
     KES_UNANSWERED = 9,   /* the module did not answer: only the tally has changed */
+    KES_WINDOW = 10,      /* a window that is not 0 or 1 */
+    KES_LOWERED = 11,     /* a release lower than it stood, or past kes_steps */
+    KES_NOT_RELEASED = 12, /* a step that a window has not yet released */
     KES_FULL = 13,        /* a new card when KES_CARDS are held */
     KES_CARD_OR_AMOUNT = 14, /* card or amount out of the journal's range */
     KES_COUNT_FULL = 15,  /* the card's count is already 4,294,967,295 */
@@ -62,7 +65,7 @@ enum kes_numbers {
 #define KES_KEY_SIZE 32u
 #define KES_DIGEST_SIZE 32u
 /* The largest sizes, at heights 12 and 12. */
-#define KES_TABLE_MAX 2952u
+#define KES_TABLE_MAX 2960u
 #define KES_SIGNATURE_MAX 992u
 
 #define KES_FAIR_MAX 256u
@@ -80,7 +83,7 @@ enum kes_numbers {
 
 /* Sizes and steps of a key of these heights, 0 where a height is not 0 to 12, of whatever type. */
 #define KES_HEIGHTS_FIT(h1, h2) ((uint64_t)(h1) <= KES_HEIGHT_MAX && (uint64_t)(h2) <= KES_HEIGHT_MAX)
-#define KES_TABLE_SIZE(h1, h2) (KES_HEIGHTS_FIT(h1, h2) ? 264u + 128u * (size_t)(h1) + 96u * (size_t)(h2) : 0u)
+#define KES_TABLE_SIZE(h1, h2) (KES_HEIGHTS_FIT(h1, h2) ? 272u + 128u * (size_t)(h1) + 96u * (size_t)(h2) : 0u)
 #define KES_SIGNATURE_SIZE(h1, h2) (KES_HEIGHTS_FIT(h1, h2) ? 224u + 32u * ((size_t)(h1) + (size_t)(h2)) : 0u)
 
 static inline size_t kes_table_size(uint64_t h1, uint64_t h2) { return KES_TABLE_SIZE(h1, h2); }
@@ -118,16 +121,22 @@ KES_CHECKED uint64_t kes_make(uint64_t h1, uint64_t h2, uint8_t *seed, size_t se
 /* Reads the verification key, which is the same at every step. Refuses 3, 4. */
 KES_CHECKED uint32_t kes_read_key(const uint8_t *table, size_t table_len, uint8_t *key, size_t key_len);
 
-/* Moves a key to a later step; the steps before it can never be signed again. Refuses 3, 6, 5, 9.
+/* Moves a key to a later step; the steps before it can never be signed again. Refuses 3, 6, 5, 12, 9.
  *     uint64_t moved = kes_move(table, table_len, now, &tally);
  *     if (kes_number(moved) == KES_DONE) ... kes_count(moved) key pairs were grown */
 KES_CHECKED uint64_t kes_move(uint8_t *table, size_t table_len, uint64_t step, uint64_t *tally);
 
 /* Moves a key to this step if that is later. A step that is not later is no fault: done with count 0, the table and the tally as they
- * were. So two timers may ask in any order, under one lock. Refuses 3, 6, 9.
+ * were. So two timers may ask in any order, under one lock. Refuses 3, 6, 12, 9.
  *     uint64_t caught = kes_catch_up(table, table_len, now, &tally);
  *     if (kes_number(caught) == KES_DONE && kes_count(caught) > 0) ... the key has moved: store it */
 KES_CHECKED uint64_t kes_catch_up(uint8_t *table, size_t table_len, uint64_t step, uint64_t *tally);
+
+/* TWO WINDOWS on one key. The table holds for window 0 and for window 1 the first step that it still needs, 0 when the key is made. A
+ * move or a catch-up past the present step needs both at that step or above. A release sets a window's number, from the one that stands
+ * up to kes_steps, and changes nothing else; so a desk with one window releases the other to kes_steps right after making.
+ * Refuses 3, 10, 11. */
+KES_CHECKED uint32_t kes_release(uint8_t *table, size_t table_len, uint64_t window, uint64_t step);
 
 /* Signs a message at the table's step. Refuses 3, 7, 4, 9. */
 KES_CHECKED uint32_t kes_sign(const uint8_t *table, size_t table_len, const uint8_t *message, size_t message_len, uint8_t *signature, size_t signature_len, uint64_t *tally);

@@ -10,14 +10,14 @@
 #include "schemes.h"
 #include "whole_tree.h"
 
-enum { MAKE, READ_KEY, MOVE, SIGN, VERIFY, FAIR_MAKE, FAIR_MOVE, FAIR_SIGN, FAIR_VERIFY, FILL, ROOT, PATH, LEAF_SIGN, CALLS };
+enum { MAKE, READ_KEY, MOVE, RELEASE, SIGN, VERIFY, FAIR_MAKE, FAIR_MOVE, FAIR_SIGN, FAIR_VERIFY, FILL, ROOT, PATH, LEAF_SIGN, CALLS };
 enum { KEY_CALLS = FAIR_MAKE, FAIR_CALLS = FILL - FAIR_MAKE, WHOLE_CALLS = CALLS - FILL };
-static const char *const names[CALLS] = {"make", "read key", "move", "sign", "verify", "fair make", "fair move", "fair sign", "fair verify",
+static const char *const names[CALLS] = {"make", "read key", "move", "release", "sign", "verify", "fair make", "fair move", "fair sign", "fair verify",
     "plain fill", "plain root", "plain path", "plain sign"};
 
 /* A call's numbers and lengths, and the bytes lent, each buffer with room for one byte too many. */
 struct request {
-    uint64_t h1, h2, step, n, tally;
+    uint64_t h1, h2, step, window, n, tally;
     size_t seed_len, table_len, key_len, message_len, signature_len, seeds_len, cache_len, tree_len, path_len;
     uint8_t seed[KES_SEED_SIZE + 1], table[KES_TABLE_MAX + 1], key[KES_KEY_SIZE + 1], message[KES_MESSAGE_MAX + 1],
         signature[KES_SIGNATURE_MAX + 1], seeds[KES_FAIR_SEEDS_SIZE(KES_FAIR_MAX) + 1], cache[KES_FAIR_CACHE_MAX + 1], tree[KES_PLAIN_TABLE_MAX + 1],
@@ -95,6 +95,7 @@ static uint64_t ask(const struct scheme *s, const struct fair *f, const struct w
     case MAKE: return s->make(r->h1, r->h2, r->seed, r->seed_len, r->table, r->table_len, &r->tally);
     case READ_KEY: return s->read_key(r->table, r->table_len, r->key, r->key_len);
     case MOVE: return s->move(r->table, r->table_len, r->step, &r->tally);
+    case RELEASE: return s->release(r->table, r->table_len, r->window, r->step);
     case SIGN: return s->sign(r->table, r->table_len, r->message, r->message_len, r->signature, r->signature_len, &r->tally);
     default:
         return s->verify(r->h1, r->h2, r->key, r->key_len, r->step, r->message, r->message_len, r->signature, r->signature_len);
@@ -121,8 +122,8 @@ static uint32_t both(int call)
 /* One wrong number, one wrong length or one changed byte. */
 static void spoil(void)
 {
-    enum { NUMBERS = 4, LENGTHS = 9, BYTES = 6 };
-    uint64_t *numbers[NUMBERS] = {&lent.h1, &lent.h2, &lent.step, &lent.n};
+    enum { NUMBERS = 5, LENGTHS = 9, BYTES = 6 };
+    uint64_t *numbers[NUMBERS] = {&lent.h1, &lent.h2, &lent.step, &lent.window, &lent.n};
     size_t *lengths[LENGTHS] = {&lent.seed_len, &lent.table_len, &lent.key_len, &lent.message_len, &lent.signature_len, &lent.seeds_len, &lent.cache_len,
         &lent.tree_len, &lent.path_len};
     uint8_t *bytes[BYTES] = {lent.table, lent.key, lent.message, lent.signature, lent.cache, lent.tree};
@@ -143,7 +144,8 @@ static void spoiled(int times, int first, int calls)
     good = lent;
     for (; times > 0; times--) {
         int call = first + (int)draw((uint64_t)calls);
-        if (call == MOVE)
+        lent.window = draw(2);
+        if (call == MOVE || call == RELEASE)
             lent.step += draw(kes_steps(lent.h1, lent.h2) - lent.step);
         if (call == FAIR_MOVE)
             lent.step += draw(lent.n - lent.step);
@@ -191,9 +193,16 @@ static void sign_and_verify(void)
     must(VERIFY);
 }
 
+/* Each window releases the step, the second in its own time. */
 static void go_to(uint64_t step)
 {
     lent.step = step;
+    lent.window = 0;
+    must(RELEASE);
+    if (both(MOVE) != KES_NOT_RELEASED)
+        exit(1);
+    lent.window = 1;
+    must(RELEASE);
     must(MOVE);
     sign_and_verify();
 }
@@ -293,7 +302,7 @@ int main(int argc, char **argv)
     for (i = 0; i <= KES_NOT_ACCEPTED; i++)
         if (seen[i] != 0)
             printf("agree: library and plain C both answer %d: %lu times\n", i, seen[i]);
-        else if (i <= KES_UNANSWERED || i == KES_NOT_ACCEPTED) {
+        else if (i <= KES_NOT_RELEASED || i == KES_NOT_ACCEPTED) {
             fprintf(stderr, "agree: no request was answered %d\n", i);
             return 1;
         }

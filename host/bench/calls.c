@@ -92,6 +92,8 @@ static void make_key(int h)
     k->signature_len = kes_signature_size(k->h1, k->h2);
     lay_out(k);
     must(kes_number(make(LIBRARY, k)) == KES_DONE, "no key is made");
+    must(kes_release(table, k->table_len, 0, kes_steps(k->h1, k->h2)) == KES_DONE, "window 0 is not released");
+    must(kes_release(table, k->table_len, 1, kes_steps(k->h1, k->h2)) == KES_DONE, "window 1 is not released");
     memcpy(k->table, table, k->table_len);
     must(kes_read_key(table, k->table_len, k->key, sizeof k->key) == KES_DONE, "no key is read");
     must(sign(LIBRARY, k) == KES_DONE, "nothing is signed");

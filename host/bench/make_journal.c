@@ -30,6 +30,7 @@ static void begin(void)
 {
     uint8_t seed[KES_SEED_SIZE] = "a race may take a fixed seed...";
     must(kes_number(kes_make(H1, H2, seed, sizeof seed, table, sizeof table, &tally)) == KES_DONE, "no key is made");
+    must(kes_release(table, sizeof table, 0, kes_steps(H1, H2)) == KES_DONE && kes_release(table, sizeof table, 1, kes_steps(H1, H2)) == KES_DONE, "nothing is released");
     must(kes_read_key(table, sizeof table, key, sizeof key) == KES_DONE, "no key is read");
     printf("kes2\t%d\t%d\t", H1, H2);
     print_hex(key, sizeof key);

@@ -6,10 +6,10 @@
 #include "kes.h"
 #include "plain_kes.h"
 
-enum { NODE = 32, LEVEL = 3 * NODE, LEAF = 2 * NODE, SIGNED = 3 * NODE, HEADER = 8 };
+enum { NODE = 32, LEVEL = 3 * NODE, LEAF = 2 * NODE, SIGNED = 3 * NODE, HEADER = 16, WINDOWS = 2 };
 
 struct header {
-    size_t h1, h2, step;
+    size_t h1, h2, step, needs[WINDOWS];
 };
 
 /* Where the table's parts begin. */
@@ -129,24 +129,36 @@ static int leaf_accepts(const uint8_t *message, size_t len, const uint8_t *signa
     return crypto_sign_verify_detached(signature + NODE, message, len, signature) == 0;
 }
 
+static size_t get_four(const uint8_t *at) { return at[0] | (size_t)at[1] << 8 | (size_t)at[2] << 16 | (size_t)at[3] << 24; }
+
+static void put_four(uint8_t *at, size_t number)
+{
+    size_t i;
+    for (i = 0; i < 4; i++)
+        at[i] = (uint8_t)(number >> 8 * i);
+}
+
 static int read_header(const uint8_t *table, size_t len, struct header *found)
 {
-    if (len < HEADER || !KES_HEIGHTS_FIT(table[0], table[1]) || table[2] != 0 || table[3] != 0)
+    size_t end, i;
+    if (len < HEADER || !KES_HEIGHTS_FIT(table[0], table[1]) || table[2] != 1 || table[3] != 0)
         return 0;
     found->h1 = table[0];
     found->h2 = table[1];
-    found->step = table[4] | (size_t)table[5] << 8 | (size_t)table[6] << 16 | (size_t)table[7] << 24;
-    return len == kes_table_size(found->h1, found->h2) && found->step < kes_steps(found->h1, found->h2);
+    found->step = get_four(table + 4);
+    end = kes_steps(found->h1, found->h2);
+    for (i = 0; i < WINDOWS; i++)
+        if ((found->needs[i] = get_four(table + 8 + 4 * i)) > end)
+            return 0;
+    return len == kes_table_size(found->h1, found->h2) && found->step < end;
 }
 
-static void put_header(uint8_t *table, size_t h1, size_t h2, size_t step)
+static void put_header(uint8_t *table, size_t h1, size_t h2)
 {
-    size_t i;
+    memset(table, 0, HEADER);
     table[0] = (uint8_t)h1;
     table[1] = (uint8_t)h2;
-    table[2] = table[3] = 0;
-    for (i = 0; i < 4; i++)
-        table[4 + i] = (uint8_t)(step >> 8 * i);
+    table[2] = 1;
 }
 
 static uint64_t done(size_t count) { return (uint64_t)count << 32 | KES_DONE; }
@@ -177,7 +189,7 @@ uint64_t plain_make(uint64_t h1, uint64_t h2, uint8_t *seed, size_t seed_len, ui
         return KES_LENGTH;
     side(0, seed, parent);
     side(1, seed, stored);
-    put_header(copy, h1, h2, 0);
+    put_header(copy, h1, h2);
     if (!grow(parent, h1, 0, copy + HEADER, unused, tally) || !enter(copy, h1, 0, stored, h2, 0, tally))
         return KES_UNANSWERED;
     memcpy(table, copy, table_len);
@@ -222,6 +234,8 @@ uint64_t plain_move(uint8_t *table, size_t table_len, uint64_t step, uint64_t *t
         return KES_PAST_END;
     if (step <= at.step)
         return KES_NOT_LATER;
+    if (step > at.needs[0] || step > at.needs[1])
+        return KES_NOT_RELEASED;
     memcpy(copy, table, table_len);
     wide = (size_t)1 << at.h2;
     if (step / wide == at.step / wide)
@@ -230,9 +244,22 @@ uint64_t plain_move(uint8_t *table, size_t table_len, uint64_t step, uint64_t *t
         count = move_parent(copy, at, step, tally);
     if (count == 0)
         return KES_UNANSWERED;
-    put_header(copy, at.h1, at.h2, step);
+    put_four(copy + 4, step);
     memcpy(table, copy, table_len);
     return done(count);
+}
+
+uint32_t plain_release(uint8_t *table, size_t table_len, uint64_t window, uint64_t step)
+{
+    struct header at;
+    if (!read_header(table, table_len, &at))
+        return KES_TABLE;
+    if (window >= WINDOWS)
+        return KES_WINDOW;
+    if (step < at.needs[window] || step > kes_steps(at.h1, at.h2))
+        return KES_LOWERED;
+    put_four(table + 8 + 4 * window, step);
+    return KES_DONE;
 }
 
 uint32_t plain_sign(const uint8_t *table, size_t table_len, const uint8_t *message, size_t message_len, uint8_t *signature, size_t signature_len, uint64_t *tally)

@@ -2,7 +2,7 @@
  * the step was gone, its top-up could no longer be signed, and a member lost the money. So here
  *
  *     a top-up:  sign, check, append the record, sync, append its LF, sync, write the chip, show "done"
- *     a tick:    move in memory, write key.new, sync, give key the second name key.old, sync, rename key.new to key, sync,
+ *     a tick:    release the steps before it, move in memory, write key.new, sync, give key the second name key.old, sync, rename key.new to key, sync,
  *                zero key.old, sync, remove it
  *
  * and each step of it waits for the one before. Money is on a chip only if its record is safe. A moved key signs only once it is
@@ -25,7 +25,12 @@
 #include "show.h"
 
 static const struct secret KEY = {"key", "key.new", "key.old"};
-static const char JOURNAL[] = "journal";
+/* Of each window; a desk with one has the first. */
+static const char *const JOURNALS[] = {"journal", "refunds"};
+
+
+/* Heights, step and the windows' numbers. */
+enum { HEADER_SIZE = 16 };
 
 /* All that the desk knows. Seed and table are its secrets, and stand nowhere else. */
 static struct {
@@ -34,7 +39,7 @@ static struct {
     size_t table_len;
     struct registered registered;
     uint64_t serial; /* the last record's */
-    int journal;
+    int window, journal;
 } desk;
 
 /* Where document 01 lays it in the table. */
@@ -61,7 +66,7 @@ static void store_header(void)
 {
     char line[HEADER_MOST + 1];
     size_t len = header_line(line, &desk.registered);
-    desk.journal = lines_new(JOURNAL, line, len);
+    desk.journal = lines_new(JOURNALS[desk.window], line, len);
 }
 
 static void make_table(uint64_t h1, uint64_t h2)
@@ -82,7 +87,7 @@ static void make_table(uint64_t h1, uint64_t h2)
 static int find_journal(void)
 {
     char word[4];
-    int journal = file_open(JOURNAL);
+    int journal = file_open(JOURNALS[desk.window]);
     if (journal >= 0 && file_read(journal, 0, word, sizeof word) == sizeof word && memcmp(word, "kes\t", sizeof word) == 0)
         refuse("the journal begins with kes, not kes2: it is an old one; make a new key and a new journal in another folder");
     return journal;
@@ -101,15 +106,24 @@ static void need_no_desk(void)
     file_close(journal);
 }
 
-/* The key gets its name last: where it has it, a journal with a whole header is on the disk too, its name synced with key.new's. */
-void desk_make(const char *folder, uint64_t h1, uint64_t h2)
+static void each_window(int windows, void (*does)(void))
+{
+    for (desk.window = 0; desk.window < windows; desk.window++)
+        does();
+}
+
+/* The key gets its name last: where it has it, a journal with a whole header is on the disk too, its name synced with key.new's. A desk
+ * with one window releases the other at once: nobody else will. */
+void desk_make(const char *folder, uint64_t h1, uint64_t h2, int windows)
 {
     memory_guard(&desk, sizeof desk);
     folder_open(folder);
-    need_no_desk();
+    each_window(windows, need_no_desk);
     secret_tidy(&KEY);
     make_table(h1, h2);
-    store_header();
+    if (windows == 1)
+        need(kes_release(desk.table, desk.table_len, 1, kes_steps(h1, h2)), "kes_release");
+    each_window(windows, store_header);
     secret_write_new(&KEY, desk.table, desk.table_len);
     secret_name_new(&KEY);
     show("made: a key of %" PRIu64 " steps; its verification key is in line 1 of the journal\n", kes_steps(h1, h2));
@@ -154,8 +168,8 @@ static int read_last(struct record *last, const struct tail *tail)
     return 1;
 }
 
-/* Whether the last record was shown as done, only the clerk knows. */
-static void open_journal(void)
+/* Whether the last record was shown as done, only the clerk knows, who is told of it as the program starts. */
+static void open_journal(int starts)
 {
     struct tail tail;
     struct record last = {.signature_len = signature_size(&desk.registered)};
@@ -166,7 +180,7 @@ static void open_journal(void)
     if (read_last(&last, &tail))
         desk.serial = last.serial;
     lines_repair(desk.journal, &tail);
-    if (desk.serial > 0)
+    if (desk.serial > 0 && starts)
         show("last record: serial %" PRIu64 ", card %s, %" PRIu64 " cents\nif it was not shown as done, look at the chip\n", last.serial, last.card, last.amount);
 }
 
@@ -176,8 +190,33 @@ void desk_open(const char *folder)
     folder_open(folder);
     desk.journal = find_journal();
     open_key();
-    open_journal();
+    open_journal(1);
     show("open: step %" PRIu64 ", next serial %" PRIu64 "\n", desk_step(), desk.serial + 1);
+}
+
+/* A window's turn: while it has the folder's lock, the key's file and its own journal are its own. It begins with the repair that a
+ * crashed turn of either window needs, and ends with no key in memory: the other window may move it on. */
+void desk_turn(const char *folder, int window)
+{
+    static int turns;
+    desk.window = window;
+    desk.serial = 0;
+    folder_enter(folder);
+    desk.journal = find_journal();
+    open_key();
+    open_journal(turns++ == 0);
+}
+
+void desk_turn_end(void)
+{
+    file_close(desk.journal);
+    memory_clear(desk.table, sizeof desk.table);
+    folder_leave();
+}
+
+void desk_guard(void)
+{
+    memory_guard(&desk, sizeof desk);
 }
 
 /* What nobody would call good is not stored, and no money follows it. */
@@ -231,11 +270,20 @@ void desk_top_up(const char *card, uint64_t amount)
     show_done(&record);
 }
 
+/* This window needs no earlier step any more. One that is lower than what stands, or past the end, the catch-up tells of. */
+static void release(uint64_t step)
+{
+    uint32_t number = kes_release(desk.table, desk.table_len, (uint64_t)desk.window, step);
+    if (number != KES_LOWERED)
+        need(number, "kes_release");
+}
+
 /* A step that is not later is no fault: after a restart, or where two timers tick, the clock may say again what it said before. Then
  * the key stays, and its file is not written. */
 void desk_jump(uint64_t step)
 {
     uint64_t moved;
+    release(step);
     do {
         moved = kes_catch_up(desk.table, desk.table_len, step, module_tally());
         kes_wipe();
@@ -247,6 +295,27 @@ void desk_jump(uint64_t step)
         return;
     secret_replace(&KEY, desk.table, desk.table_len);
     show("step: %" PRIu64 "\n", step);
+}
+
+/* Both windows' ticks: this one needs no earlier step any more, which is stored; and the key moves if the other needs none either. What
+ * a tick changes, the header says. */
+void desk_release(uint64_t step)
+{
+    uint8_t before[HEADER_SIZE];
+    uint64_t moved;
+    memcpy(before, desk.table, sizeof before);
+    release(step);
+    do {
+        moved = kes_catch_up(desk.table, desk.table_len, step, module_tally());
+        kes_wipe();
+    } while (module_silent(kes_number(moved)));
+    if (kes_number(moved) == KES_PAST_END)
+        refuse("the clock is past the key's last step; make a new key and have it registered");
+    if (kes_number(moved) != KES_NOT_RELEASED)
+        need(kes_number(moved), "kes_catch_up");
+    if (memcmp(before, desk.table, sizeof before) != 0)
+        secret_replace(&KEY, desk.table, desk.table_len);
+    show(kes_count(moved) > 0 ? "step: %" PRIu64 "\n" : "released: %" PRIu64 "\n", step);
 }
 
 void desk_tick(uint64_t step)

@@ -5,8 +5,8 @@
 
 #include "registered.h"
 
-/* Makes the folder's key, at step 0, and its journal. */
-void desk_make(const char *folder, uint64_t h1, uint64_t h2);
+/* Makes the folder's key, at step 0, for one window or for two, and a journal for each. */
+void desk_make(const char *folder, uint64_t h1, uint64_t h2, int windows);
 
 /* Opens the desk again, after a clean end or a crash. */
 void desk_open(const char *folder);
@@ -21,6 +21,15 @@ void desk_tick(uint64_t step);
 
 /* What a person says who was asked: moves the key however far. */
 void desk_jump(uint64_t step);
+
+/* Where two windows share the key, each in a process of its own: guards the memory, once; then a turn for each thing that a window does,
+ * during which the other waits. */
+void desk_guard(void);
+void desk_turn(const char *folder, int window);
+void desk_turn_end(void);
+
+/* The clock of a window: it needs no step before this one any more, and the key moves there if the other needs none either. */
+void desk_release(uint64_t step);
 
 /* What an open desk is registered as, and the step that it stands at. */
 const struct registered *desk_registered(void);

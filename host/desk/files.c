@@ -30,17 +30,34 @@ static int opened(const char *name, int flags)
     return file;
 }
 
-void folder_open(const char *path)
+static int locked(const char *path, int how)
 {
     int answer;
     folder = opened(path, O_RDONLY | O_DIRECTORY);
     if (folder < 0)
         failed(path);
     do
-        answer = flock(folder, LOCK_EX | LOCK_NB);
+        answer = flock(folder, how);
     while (interrupted(answer));
-    if (answer != 0)
+    return answer == 0;
+}
+
+void folder_open(const char *path)
+{
+    if (!locked(path, LOCK_EX | LOCK_NB))
         failed("another desk has this folder");
+}
+
+void folder_enter(const char *path)
+{
+    if (!locked(path, LOCK_EX))
+        failed("the folder's lock");
+}
+
+void folder_leave(void)
+{
+    file_close(folder);
+    folder = AT_FDCWD;
 }
 
 void folder_sync(void)

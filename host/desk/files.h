@@ -8,6 +8,9 @@
 
 /* Opens the folder that every name below stands in, and keeps a second desk out of it. */
 void folder_open(const char *path);
+/* The same, where two windows share it: waits for the other, and lets it in again. */
+void folder_enter(const char *path);
+void folder_leave(void);
 void folder_sync(void);
 
 /* An open file: one that is there, or -1; and an empty one. */

@@ -1,5 +1,5 @@
 /* A fuzzer's target: a good call with the input laid over it, made as host/test/lib/lent.h says, over both adapters.
- * The fuzzer cannot see into the library. It sees due(), which says the number that document 01 and requests 1, 3, 4 and 7 want, by kes.h's sizes. */
+ * The fuzzer cannot see into the library. It sees due(), which says the number that document 01 and requests 1, 3, 4, 7 and 8 want, by kes.h's sizes. */
 #include <string.h>
 
 #include "../test/lib/lent.h"
@@ -51,6 +51,8 @@ int LLVMFuzzerInitialize(int *argc, char ***argv)
     need(kes_plain_fill(PLAIN_H, plain_seed, sizeof plain_seed, tree, sizeof tree, &tally));
     need(kes_make(H1, H2, seed, sizeof seed, tables[0], sizeof tables[0], &tally));
     need(kes_read_key(tables[0], sizeof tables[0], key, sizeof key));
+    need(kes_release(tables[0], sizeof tables[0], 0, STEPS - 1));
+    need(kes_release(tables[0], sizeof tables[0], 1, STEPS));
     for (i = 0; i < STEPS; i++) {
         if (i > 0) {
             memcpy(tables[i], tables[i - 1], sizeof tables[i]);
@@ -101,8 +103,8 @@ static void lay_good_plain(int op, uint64_t leaf)
 /* A good call at a step of the key. */
 static void lay_good(int op, uint64_t step)
 {
-    request.op = op, request.h1 = H1, request.h2 = H2, request.step = op == MOVE || op == CATCH_UP ? step + 1 : step;
-    if (op == READ_KEY || op == MOVE || op == CATCH_UP || op == SIGN)
+    request.op = op, request.h1 = op == RELEASE ? 0 : H1, request.h2 = H2, request.step = op == MOVE || op == CATCH_UP ? step + 1 : op == RELEASE ? STEPS : step;
+    if (op == READ_KEY || op == MOVE || op == CATCH_UP || op == RELEASE || op == SIGN)
         lay(0, tables[step], sizeof tables[step]);
     if (op == MAKE)
         lay(0, NULL, KES_SEED_SIZE), lay(1, NULL, sizeof tables[step]);
@@ -125,10 +127,11 @@ static size_t off(size_t len, uint8_t by)
     return by == 0 ? len : longer < 64 ? 0 : longer - 64;
 }
 
-static uint64_t step_of(const uint8_t *table)
-{
-    return table[4] | (uint64_t)table[5] << 8 | (uint64_t)table[6] << 16 | (uint64_t)table[7] << 24;
-}
+static uint64_t four_bytes(const uint8_t *at) { return at[0] | (uint64_t)at[1] << 8 | (uint64_t)at[2] << 16 | (uint64_t)at[3] << 24; }
+
+static uint64_t step_of(const uint8_t *table) { return four_bytes(table + 4); }
+
+static uint64_t number_of(const uint8_t *table, uint64_t window) { return four_bytes(table + 8 + 4 * window); }
 
 static uint64_t two_bytes(const uint8_t *cache) { return cache[0] | (uint64_t)cache[1] << 8; }
 
@@ -139,8 +142,8 @@ static int fair_well_formed(const uint8_t *cache, size_t len)
 
 static int well_formed(const uint8_t *table, size_t len)
 {
-    return len >= 8 && KES_HEIGHTS_FIT(table[0], table[1]) && table[2] == 0 && table[3] == 0 && len == kes_table_size(table[0], table[1])
-        && step_of(table) < kes_steps(table[0], table[1]);
+    return len >= 16 && KES_HEIGHTS_FIT(table[0], table[1]) && table[2] == 1 && table[3] == 0 && len == kes_table_size(table[0], table[1])
+        && step_of(table) < kes_steps(table[0], table[1]) && number_of(table, 0) <= kes_steps(table[0], table[1]) && number_of(table, 1) <= kes_steps(table[0], table[1]);
 }
 
 static uint32_t due_to_make(const struct request *r)
@@ -157,7 +160,17 @@ static uint32_t due_to_move(const struct request *r)
     const uint8_t *table = r->bytes[0];
     if (r->step >= kes_steps(table[0], table[1]))
         return KES_PAST_END;
-    return r->op == MOVE && r->step <= step_of(table) ? KES_NOT_LATER : KES_DONE;
+    if (r->step <= step_of(table))
+        return r->op == MOVE ? KES_NOT_LATER : KES_DONE;
+    return r->step > number_of(table, 0) || r->step > number_of(table, 1) ? KES_NOT_RELEASED : KES_DONE;
+}
+
+static uint32_t due_to_release(const struct request *r)
+{
+    const uint8_t *table = r->bytes[0];
+    if (r->h1 > 1)
+        return KES_WINDOW;
+    return r->step < number_of(table, r->h1) || r->step > kes_steps(table[0], table[1]) ? KES_LOWERED : KES_DONE;
 }
 
 static uint32_t due_to_sign(const struct request *r)
@@ -287,6 +300,8 @@ static uint32_t due_if_answered(const struct request *r)
         return KES_TABLE;
     if (r->op == READ_KEY)
         return r->len[1] != KES_KEY_SIZE ? KES_LENGTH : KES_DONE;
+    if (r->op == RELEASE)
+        return due_to_release(r);
     return r->op == SIGN ? due_to_sign(r) : due_to_move(r);
 }
 

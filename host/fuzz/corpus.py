@@ -13,9 +13,10 @@ SCHEME = kes.Scheme(MODULE)
 
 @functools.lru_cache(maxsize=2**10)
 def table(h1, h2, seed, step):
-    """The table of an honest key at a step."""
+    """The table of an honest key at a step, where both windows have released all."""
     made = bytearray(kes.table_size(h1, h2))
     SCHEME.make(h1, h2, bytearray([seed]) * 32, made)
+    SCHEME.free(made)
     SCHEME.move(made, step)
     return bytes(made)
 

@@ -88,7 +88,7 @@ def header_spoiled(draw, cache):
     n, step = int.from_bytes(cache[:2], "little"), int.from_bytes(cache[2:4], "little")
     if draw.random() < 0.5:
         return cache[:2] + (edge(draw, step, n) % 2**16).to_bytes(2, "little") + cache[4:]
-    n = draw.choice([0, 1, 2, 3, fair.MOST, fair.MOST + 1, n + fair.MOST, 2**16 - 1])
+    n = draw.choice([0, 1, 2, 3, fair.MOST, fair.MOST + 1, (n + fair.MOST) % 2**16, 2**16 - 1])
     cache = n.to_bytes(2, "little") + cache[2:]
     if n > fair.MOST + 1 or draw.random() < 0.3:
         return cache

@@ -17,10 +17,10 @@ import kes
 import plain
 import plain_calls
 import sodium
-from lib.library import CATCH_UP, FAIR_MAKE, FAIR_MOVE, FAIR_SIGN, HASH, MAKE, MOST, MOVE, PLAIN_FILL, READ_KEY, SIGN, VERIFY, Ended, Library
+from lib.library import CATCH_UP, FAIR_MAKE, FAIR_MOVE, FAIR_SIGN, HASH, MAKE, MOST, MOVE, PLAIN_FILL, READ_KEY, RELEASE, SIGN, VERIFY, Ended, Library
 from lib.modelled import NAMES, Model, show
 from mutate import edge, spoiled
-from planted import FAIR, HOSTILE, PLAIN, PLANTED
+from planted import FAIR, HOSTILE, PLAIN, PLANTED, WINDOWS
 from rounds import Different, NoAnswer, main
 from silences import FAIR_SILENCES, PLAIN_SILENCES, SILENCES
 
@@ -49,8 +49,9 @@ def some_table(draw):
     if way < 0.6:
         return corpus.table(h1, h2, seed, step)
     if way < 0.7:
-        return kes.header(h1, h2, step) + corpus.table(h1, h2, seed, draw.randrange(kes.steps(h1, h2)))[8:]
-    return kes.header(h1, h2, step) + draw.randbytes(kes.table_size(h1, h2) - 8)
+        return kes.header(h1, h2, step) + corpus.table(h1, h2, seed, draw.randrange(kes.steps(h1, h2)))[kes.HEADER :]
+    numbers = [draw.choice([kes.steps(h1, h2), draw.randrange(kes.steps(h1, h2) + 1)]) for _ in range(2)]
+    return kes.header(h1, h2, step, *numbers) + draw.randbytes(kes.table_size(h1, h2) - kes.HEADER)
 
 
 def make(draw):
@@ -63,12 +64,13 @@ def read_key(draw):
 
 
 def move(draw):
-    """To a later step, often one that is near: the taller the tree, the nearer must it be for the move to be cheap."""
+    """To a later step, often one that is near: the taller the tree, the nearer must it be for the move to be cheap. Or to the last that both
+    windows have released."""
     table = some_table(draw)
     h1, h2, now = kes.read_header(table)
     near = now + draw.randrange(1, 5)
     far = draw.randrange(now, kes.steps(h1, h2))
-    return [MOVE, 0, 0, draw.choice([near, far]), [table, b"", b""]]
+    return [MOVE, 0, 0, draw.choice([near, far, min(kes.numbers_in(table))]), [table, b"", b""]]
 
 
 def catch_up(draw):
@@ -76,6 +78,13 @@ def catch_up(draw):
     request = move(draw)
     now = kes.read_header(request[4][0])[2]
     return [CATCH_UP, 0, 0, draw.choice([request[3], request[3], now, draw.randrange(now + 1)]), request[4]]
+
+
+def release(draw):
+    table = some_table(draw)
+    end = kes.steps(*table[:2])
+    stood = draw.choice(kes.numbers_in(table))
+    return [RELEASE, draw.choice([0, 0, 1, 1, 2]), 0, draw.choice([stood, max(0, stood - 1), end, end + 1, draw.randrange(end + 1)]), [table, b"", b""]]
 
 
 def sign(draw):
@@ -119,8 +128,8 @@ def plain_sign(draw):
 
 
 # in the order of their numbers: the calls, how often each is drawn, and how many buffers it is lent
-CALLS = [make, read_key, move, catch_up, sign, verify, hashed, fair_calls.make, fair_calls.move, fair_sign, fair_verify]
-WEIGHTS, BUFFERS = [1, 1, 2, 2, 2, 3, 1, 1, 1, 1, 2], [2, 2, 1, 1, 3, 3, 2, 4, 1, 3, 3]
+CALLS = [make, read_key, move, catch_up, release, sign, verify, hashed, fair_calls.make, fair_calls.move, fair_sign, fair_verify]
+WEIGHTS, BUFFERS = [2, 1, 2, 2, 2, 2, 3, 1, 1, 1, 1, 2], [2, 2, 1, 1, 1, 3, 3, 2, 4, 1, 3, 3]
 CALLS += [plain_calls.fill, plain_calls.root, plain_calls.path, plain_sign]
 WEIGHTS, BUFFERS = WEIGHTS + [1, 1, 1, 1], BUFFERS + [2, 2, 2, 3]
 
@@ -141,14 +150,16 @@ def header_spoiled(draw, request):
     table = request[4][0]
     if request[0] in (FAIR_MOVE, FAIR_SIGN):
         request[4][0] = fair_calls.header_spoiled(draw, table)
-    if request[0] not in (READ_KEY, MOVE, CATCH_UP, SIGN) or len(table) < 8:
+    if request[0] not in (READ_KEY, MOVE, CATCH_UP, RELEASE, SIGN) or len(table) < kes.HEADER:
         return
     end = kes.steps(*[min(h, kes.TALLEST) for h in table[:2]])
     step = edge(draw, int.from_bytes(table[4:8], "little"), end) % 2**32
     request[4][0] = draw.choice([
         heights_spoiled(draw, table), heights_spoiled(draw, table),
-        table[:2] + draw.choice([b"\1\0", b"\0\1", b"\xff\xff"]) + table[4:],
+        table[:2] + draw.choice([b"\0\0", b"\2\0", b"\1\1", b"\xff\xff"]) + table[4:],
         table[:4] + step.to_bytes(4, "little") + table[8:],
+        table[:8] + step.to_bytes(4, "little") + table[12:],
+        table[:12] + step.to_bytes(4, "little") + table[16:],
     ])
 
 
@@ -161,7 +172,7 @@ def number_spoiled(draw, request):
         n = (fair.read_header(request[4][0]) or (0,))[0] if request[0] == FAIR_MOVE else request[1]
         request[at] = edge(draw, request[at], n if at == 3 else fair.MOST + 1)
         return
-    found = kes.read_header(request[4][0]) if request[0] in (MOVE, CATCH_UP) else None
+    found = kes.read_header(request[4][0]) if request[0] in (MOVE, CATCH_UP, RELEASE) else None
     h1, h2, now = found or (min(request[1], kes.TALLEST), min(request[2], kes.TALLEST), request[3])
     request[at] = edge(draw, now, kes.steps(h1, h2)) if at == 3 else edge(draw, request[at], kes.TALLEST + 1)
 
@@ -238,7 +249,7 @@ class Comparison:
 if __name__ == "__main__":
     with tempfile.TemporaryDirectory() as folder:
         compared = functools.partial(Comparison, Library(folder))
-        errors = [(error, {"scheme": error}) for error in PLANTED + HOSTILE + SILENCES]
+        errors = [(error, {"scheme": error}) for error in PLANTED + HOSTILE + WINDOWS + SILENCES]
         errors += [(error, {"cache": error}) for error in FAIR + FAIR_SILENCES]
         errors += [(error, {"engine": error}) for error in PLAIN + PLAIN_SILENCES]
         main(__file__, compared, {error.__doc__.rstrip("."): functools.partial(compared, **planted) for error, planted in errors})

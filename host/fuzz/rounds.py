@@ -8,7 +8,7 @@ import time
 
 INTERVAL = 10
 # so many cases have to be enough to notice a planted error
-ENOUGH = 1000
+ENOUGH = 4000
 
 
 class Different(Exception):

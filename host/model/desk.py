@@ -9,11 +9,12 @@ class Desk:
         self.table, key = bytearray(table_size(h1, h2)), bytearray(32)
         scheme.make(h1, h2, bytearray(seed), self.table)
         scheme.read_key(self.table, key)
+        scheme.free(self.table)
         self.key = key.hex().encode()
         self.header = b"%s\t%d\t%d\t%s" % (word, h1, h2, self.key)
 
     def signature(self, step, message):
-        """By the fresh key, moved to the step."""
+        """By the fresh key, whose windows have released every step, moved to this one."""
         table, signature = bytearray(self.table), bytearray(signature_size(*self.heights))
         self.scheme.move(table, step)
         self.scheme.sign(table, message, signature)

@@ -1,4 +1,4 @@
-"""The evolving key, written a second time from the text of document 01 and requests 1 and 4, sharing no code: the other side of every comparison.
+"""The evolving key, written a second time from the text of document 01 and requests 1, 4 and 8, sharing no code: the other side of every comparison.
 
 Inside, a tree, a signature and a table are bytes. The calls take bytearrays and write to them as 01 says, so that what stands in
 them afterwards is part of the answer. Each rule is a method of its own: a test that plants an error overrides one.
@@ -6,13 +6,15 @@ them afterwards is part of the answer. Each rule is a method of its own: a test 
 import functools
 import hashlib
 
-DONE, HEIGHT, SEED_OR_KEY, TABLE, LENGTH, NOT_LATER, PAST_END, TOO_LONG, ENTRIES, UNANSWERED = range(10)
+DONE, HEIGHT, SEED_OR_KEY, TABLE, LENGTH, NOT_LATER, PAST_END, TOO_LONG, ENTRIES, UNANSWERED, WINDOW, LOWERED, NOT_RELEASED = range(13)
 FULL, CARD_OR_AMOUNT, COUNT_FULL = 13, 14, 15
 NOT_ACCEPTED = 100
 
 TALLEST = 12
 LONGEST = 4096
 ZEROS = bytes(32)
+# request 8
+HEADER = 16
 
 
 def H(data):
@@ -54,19 +56,26 @@ def signature_size(h1, h2):
 
 
 def table_size(h1, h2):
-    return 8 + tree_size(h1) + sum_size(h1) + 32 + tree_size(h2)
+    return HEADER + tree_size(h1) + sum_size(h1) + 32 + tree_size(h2)
 
 
-def header(h1, h2, step):
-    return bytes([h1, h2, 0, 0]) + step.to_bytes(4, "little")
+def header(h1, h2, step, *numbers):
+    """Request 8: step, and for window 0 and 1 the first step that it still needs; where none are given, both have released all."""
+    numbers = numbers or (steps(h1, h2), steps(h1, h2))
+    return bytes([h1, h2, 1, 0]) + b"".join(n.to_bytes(4, "little") for n in (step, *numbers))
+
+
+def numbers_in(table):
+    """The windows' numbers."""
+    return [int.from_bytes(table[at : at + 4], "little") for at in (8, 12)]
 
 
 def read_header(table):
     """The two heights and the step, or None where the number is 3."""
-    if len(table) < 8 or max(table[:2]) > TALLEST or any(table[2:4]):
+    if len(table) < HEADER or max(table[:2]) > TALLEST or table[2:4] != b"\1\0":
         return None
     h1, h2, step = table[0], table[1], int.from_bytes(table[4:8], "little")
-    if len(table) != table_size(h1, h2) or step >= steps(h1, h2):
+    if len(table) != table_size(h1, h2) or step >= steps(h1, h2) or max(numbers_in(table)) > steps(h1, h2):
         return None
     return h1, h2, step
 
@@ -82,7 +91,7 @@ def cut(data, *sizes):
 
 def read_body(table, h1, h2):
     """The parent tree, the parent's sum signature, the next seed, the child tree."""
-    return cut(table[8:], tree_size(h1), sum_size(h1), 32, tree_size(h2))
+    return cut(table[HEADER:], tree_size(h1), sum_size(h1), 32, tree_size(h2))
 
 
 def hash_call(message, out):
@@ -253,7 +262,7 @@ class Scheme:
             return LENGTH, 0
         child_seed, next_seed = self.chain(right(seed), 1)
         parent, child = self.tree_at(left(seed), h1, 0), self.tree_at(child_seed, h2, 0)
-        table[:] = header(h1, h2, 0) + self.body(h1, 0, parent, next_seed, h2, child)
+        table[:] = header(h1, h2, 0, 0, 0) + self.body(h1, 0, parent, next_seed, h2, child)
         seed[:] = ZEROS
         return DONE, self.count_new(h1) + self.count_new(h2)
 
@@ -270,12 +279,12 @@ class Scheme:
 
     @asking((UNANSWERED, 0))
     def move(self, table, step):
-        """3, 6, 5, 9. Answers the number and the count."""
+        """3, 6, 5, 12, 9. Answers the number and the count."""
         return self.asked_for(table, step, NOT_LATER)
 
     @asking((UNANSWERED, 0))
     def catch_up(self, table, step):
-        """Request 1: 3, 6, 9; a step that is not later is done with count 0, and the table stays."""
+        """Request 1: 3, 6, 12, 9; a step that is not later is done with count 0, and the table stays."""
         return self.asked_for(table, step, DONE)
 
     def asked_for(self, table, step, early):
@@ -288,10 +297,34 @@ class Scheme:
             return PAST_END, 0
         if step <= now:
             return early, 0
+        if not self.released(table, step):
+            return NOT_RELEASED, 0
         same_child = now >> h2 == step >> h2
         body, count = (self.move_child if same_child else self.move_parent)(table, h1, h2, now, step)
-        table[:] = header(h1, h2, step) + body
+        table[:] = header(h1, h2, step, *numbers_in(table)) + body
         return DONE, count
+
+    def released(self, table, step):
+        """Request 8: both windows' numbers are at the step or above."""
+        return step <= min(numbers_in(table))
+
+    def release(self, table, window, step):
+        """Request 8: 3, 10, 11. Sets the window's number in its four bytes, at most T and never lower than it stood."""
+        found = read_header(table)
+        if found is None:
+            return TABLE
+        if window > 1:
+            return WINDOW
+        if step < numbers_in(table)[window] or step > steps(*found[:2]):
+            return LOWERED
+        at = 8 + 4 * window
+        table[at : at + 4] = step.to_bytes(4, "little")
+        return DONE
+
+    def free(self, table):
+        """Both windows release all, as a desk with none of them does."""
+        for window in (0, 1):
+            self.release(table, window, steps(*table[:2]))
 
     def move_child(self, table, h1, h2, now, step):
         """The parent step stays, and all of the parent with it."""

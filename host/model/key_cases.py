@@ -39,6 +39,17 @@ def made(h1, h2, table):
     return f"made {h1} {h2} {grown(answer)} {H(table).hex()} {number} {key.hex()}"
 
 
+def release(table, window, to):
+    return str(SCHEME.release(table, window, to))
+
+
+def windows(table):
+    """Two windows at heights 2 and 2: releases refused and done, and moves that wait for one of them."""
+    words = ["windows", grown(SCHEME.move(table, 1)), release(table, 2, 1), release(table, 2**32, 1), release(table, 0, 17), release(table, 0, 5)]
+    words += [grown(SCHEME.move(table, 1)), release(table, 1, 3), grown(SCHEME.catch_up(table, 4)), grown(SCHEME.catch_up(table, 3)), release(table, 0, 4)]
+    return " ".join([*words, release(table, 0, 5), release(table, 1, 16), grown(SCHEME.move(table, 6)), grown(SCHEME.move(table, 5)), H(table).hex()])
+
+
 def step(h1, h2, t, table):
     key = read_key(table)[1]
     end = steps(h1, h2)
@@ -57,6 +68,7 @@ def jumps(h1, h2):
         for b in range(a, end):
             table = bytearray(table_size(h1, h2))
             make(h1, h2, table)
+            SCHEME.free(table)
             SCHEME.move(table, a)
             total += SCHEME.move(table, b)[1]
             chain = H(chain + H(table))
@@ -64,7 +76,7 @@ def jumps(h1, h2):
 
 
 def messages():
-    table, signature, words = bytearray(264), bytearray(224), ["messages"]
+    table, signature, words = bytearray(272), bytearray(224), ["messages"]
     words.append(grown(make(0, 0, table)))
     for message in (b"", b"\7" * 4096, b"\7" * 4097):
         words += [str(SCHEME.sign(table, message, signature)), H(signature).hex()]
@@ -73,7 +85,9 @@ def messages():
 
 def tallest():
     table = bytearray(table_size(12, 12))
-    words = ["tallest", grown(make(12, 12, table)), grown(SCHEME.move(table, 2**24 - 1)), H(table).hex()]
+    words = ["tallest", grown(make(12, 12, table))]
+    SCHEME.free(table)
+    words += [grown(SCHEME.move(table, 2**24 - 1)), H(table).hex()]
     return " ".join(words + [grown(make(13, 0, table)), grown(make(0, 13, table))])
 
 
@@ -81,6 +95,7 @@ def at(h1, h2, t):
     """The table of a step, made and moved where the module answers."""
     MODULE.tally, table = ANSWERED, bytearray(table_size(h1, h2))
     make(h1, h2, table)
+    SCHEME.free(table)
     SCHEME.move(table, t)
     return table
 
@@ -94,7 +109,8 @@ def twice(tally, call, *lent):
 
 
 def make_at(h1, h2, tally):
-    seed, table = bytearray(b"\7" * 32), at(h1, h2, 0)
+    MODULE.tally, seed, table = ANSWERED, bytearray(b"\7" * 32), bytearray(table_size(h1, h2))
+    make(h1, h2, table)
     return f"make {h1} {h2} " + twice(tally, lambda: grown(SCHEME.make(h1, h2, seed, table)), seed, table)
 
 
@@ -136,9 +152,13 @@ def lines():
     for h1, h2 in HEIGHTS:
         table = bytearray(table_size(h1, h2))
         yield made(h1, h2, table)
+        SCHEME.free(table)
         for t in range(steps(h1, h2)):
             yield step(h1, h2, t, table)
         yield jumps(h1, h2)
+    table = bytearray(table_size(2, 2))
+    make(2, 2, table)
+    yield windows(table)
     yield tallest()
     yield messages()
     yield from unanswered()

@@ -2,7 +2,7 @@
 that a comparison notices it. Below them the same for the fair's cache, the plain engine and the card index."""
 from cards import CARDS, Index, LAST_CARD, MOST_LINES
 from fair import ENTRY, Fair, fits
-from kes import DONE, LENGTH, TABLE, TALLEST, ZEROS, Scheme, read_body, read_header, signature_size, steps
+from kes import DONE, LENGTH, TABLE, TALLEST, ZEROS, Scheme, numbers_in, read_body, read_header, signature_size, steps
 from plain import HIGHEST, Plain
 
 
@@ -52,8 +52,11 @@ PLANTED = [StepModulo, SeedKept, ChainOnce, FromTheRoot, SecretKept]
 class StepCut(Scheme):
     """A step is cut to 32 bits."""
 
-    def move(self, table, step):
-        return super().move(table, step % 2**32)
+    def asked_for(self, table, step, early):
+        return super().asked_for(table, step % 2**32, early)
+
+    def release(self, table, window, step):
+        return super().release(table, window, step % 2**32)
 
 
 class LengthFirst(Scheme):
@@ -116,6 +119,46 @@ class StayWrites(Scheme):
             table[4:8] = step.to_bytes(4, "little")
         return answer
 
+
+class OtherWindow(Scheme):
+    """A release writes the other window's bytes."""
+
+    def release(self, table, window, step):
+        return super().release(table, window ^ 1 if window < 2 else window, step)
+
+
+class OneWindow(Scheme):
+    """One window is enough."""
+
+    def released(self, table, step):
+        return step <= max(numbers_in(table))
+
+
+class Below(Scheme):
+    """A window has to have released more than the step."""
+
+    def released(self, table, step):
+        return step < min(numbers_in(table))
+
+
+class PastT(Scheme):
+    """A release past T is done, as one of T."""
+
+    def release(self, table, window, step):
+        return super().release(table, window, min(step, steps(*table[:2]))) if read_header(table) else TABLE
+
+
+class Lowers(Scheme):
+    """A release may lower the number."""
+
+    def release(self, table, window, step):
+        if read_header(table) and window < 2 and step < numbers_in(table)[window]:
+            table[8 + 4 * window : 12 + 4 * window] = step.to_bytes(4, "little")
+            return DONE
+        return super().release(table, window, step)
+
+
+WINDOWS = [OtherWindow, OneWindow, Below, PastT, Lowers]
 
 HOSTILE = [StepCut, LengthFirst, SeedGone, NextSeedGone, BodyJudged, StayRefused, StayCounts, StayWrites]
 

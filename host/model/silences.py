@@ -1,7 +1,7 @@
 """Errors in what a call does of which the module does not answer all, each planted in the model, so that tests can show that a
 comparison notices it. Below them the same for the fair's cache and the plain engine."""
 from fair import Fair
-from kes import DONE, ENTRIES, UNANSWERED, ZEROS, Scheme, Silent
+from kes import DONE, ENTRIES, HEADER, UNANSWERED, ZEROS, Scheme, Silent
 from plain import Plain
 
 
@@ -48,7 +48,7 @@ class ClearedBySilence(Scheme):
     def move(self, table, step):
         answer = super().move(table, step)
         if answer[0] == UNANSWERED:
-            table[8:] = bytes(len(table) - 8)
+            table[HEADER:] = bytes(len(table) - HEADER)
         return answer
 
 

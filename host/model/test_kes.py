@@ -17,6 +17,7 @@ MESSAGE = b"1111222233334444" b"1" b"2500"
 def made(h1, h2, scheme=MODEL):
     table = bytearray(table_size(h1, h2))
     assert scheme.make(h1, h2, bytearray(SEED), table)[0] == kes.DONE
+    scheme.free(table)
     return table
 
 
@@ -51,11 +52,11 @@ def junk(size):
 
 
 def sums():
-    """A1 to A14."""
-    assert [table_size(h, h) for h in (0, 2, 12)] == [264, 712, 2952]
+    """A1 to A14, the tables 8 bytes longer by request 8."""
+    assert [table_size(h, h) for h in (0, 2, 12)] == [272, 720, 2960]
     assert [signature_size(h, h) for h in (0, 2, 12)] == [224, 352, 992]
-    assert MODEL.make(0, 0, bytearray(SEED), bytearray(264)) == (kes.DONE, 2)
-    assert MODEL.make(2, 2, bytearray(SEED), bytearray(712)) == (kes.DONE, 8)
+    assert MODEL.make(0, 0, bytearray(SEED), bytearray(272)) == (kes.DONE, 2)
+    assert MODEL.make(2, 2, bytearray(SEED), bytearray(720)) == (kes.DONE, 8)
     assert [moved(at(2, 2, a), b)[1] for a, b in [(0, 1), (0, 3), (3, 4), (4, 6), (0, 15)]] == [1, 3, 5, 2, 10]
     assert moved(made(1, 0), 1)[1] == 2
     return 14
@@ -106,7 +107,7 @@ def damaged_tables(h1, h2, straight):
     """The tables of all steps, one whose body is anything at each step, and one that is not well formed."""
     yield from straight
     for step in range(steps(h1, h2)):
-        yield bytearray(kes.header(h1, h2, step) + junk(table_size(h1, h2) - 8))
+        yield bytearray(kes.header(h1, h2, step) + junk(table_size(h1, h2) - kes.HEADER))
     yield straight[0][:-1]
 
 
@@ -134,6 +135,37 @@ def catches_up():
             for a, b in itertools.combinations(asked, 2):
                 assert caught(table, a, b)[0] == caught(table, b, a)[0]
                 cases += 1
+    return cases
+
+
+def windows():
+    """Request 8: a window's number goes up to T and never down, both have to allow a move, and the two may release in either order, on
+    good and damaged tables; a signature does not hang on them."""
+    cases, end = 0, steps(1, 1)
+    for body in (bytes(made(1, 1)[kes.HEADER :]), junk(table_size(1, 1) - kes.HEADER)):
+        for step, first, second in itertools.product(range(end), range(end + 1), range(end + 1)):
+            table = bytearray(kes.header(1, 1, step, first, second) + body)
+            signature = signed(table)
+            for a, b in itertools.product(range(end + 2), repeat=2):
+                orders = []
+                for order_of in ([(0, a), (1, b)], [(1, b), (0, a)]):
+                    after = bytearray(table)
+                    orders.append(({window: MODEL.release(after, window, n) for window, n in order_of}, after))
+                assert orders[0] == orders[1]
+                answers, after = orders[0]
+                assert answers == {w: kes.DONE if stood <= n <= end else kes.LOWERED for w, stood, n in ((0, first, a), (1, second, b))}
+                assert kes.numbers_in(after) == [n if answers[w] == kes.DONE else stood for w, stood, n in ((0, first, a), (1, second, b))]
+                assert after[:8] + after[16:] == table[:8] + table[16:] and signed(after) == signature
+                cases += 1
+            for to in range(step + 1, end):
+                number = MODEL.move(bytearray(table), to)[0]
+                assert number == (kes.DONE if to <= min(first, second) else kes.NOT_RELEASED)
+    fresh = bytearray(table_size(2, 2))
+    MODEL.make(2, 2, bytearray(SEED), fresh)
+    assert kes.numbers_in(fresh) == [0, 0] and MODEL.move(bytearray(fresh), 1) == (kes.NOT_RELEASED, 0)
+    assert MODEL.release(fresh, 2, 0) == MODEL.release(fresh, 2**32, 17) == kes.WINDOW
+    for bad in (bytes([2, 2, 0, 0]) + fresh[4:], kes.header(2, 2, 0, 17, 0) + fresh[16:], kes.header(2, 2, 0, 0, 17) + fresh[16:]):
+        assert MODEL.release(bytearray(bad), 2, 0) == kes.TABLE
     return cases
 
 
@@ -197,8 +229,8 @@ def knows():
 def bad_tables():
     """Each way in which a table is not one."""
     good = made(2, 2)
-    cuts = [good[:size] for size in range(8)] + [good[:-1], good + b"\0"]
-    bytes_of_header = [(0, 13), (0, 255), (0, 3), (1, 13), (1, 255), (1, 1), (2, 1), (3, 1), (4, 16), (5, 1), (6, 1), (7, 128)]
+    cuts = [good[:size] for size in range(16)] + [good[:-1], good + b"\0"]
+    bytes_of_header = [(0, 13), (0, 255), (0, 3), (1, 13), (1, 255), (1, 1), (2, 0), (2, 2), (3, 1), (4, 16), (5, 1), (6, 1), (7, 128), (8, 17), (11, 1), (12, 17), (15, 1)]
     return cuts + [good[:i] + bytes([value]) + good[i + 1 :] for i, value in bytes_of_header]
 
 
@@ -213,10 +245,15 @@ def refusals():
     def sizes(name, *wrong):
         return [{name: bytearray(size)} for size in wrong]
 
-    make = {"h1": 2, "h2": 2, "seed": bytearray(SEED), "table": bytearray(712)}
-    cases = order(MODEL.make, make, {1: tall, 2: sizes("seed", 0, 31, 33), 4: sizes("table", 0, 711, 713)})
+    make = {"h1": 2, "h2": 2, "seed": bytearray(SEED), "table": bytearray(720)}
+    cases = order(MODEL.make, make, {1: tall, 2: sizes("seed", 0, 31, 33), 4: sizes("table", 0, 712, 719, 721)})
     cases += order(MODEL.read_key, {"table": table, "key": bytearray(32)}, {3: tables, 4: sizes("key", 0, 31, 33)})
     cases += order(MODEL.move, {"table": table, "step": 10}, {3: tables, 6: late, 5: [{"step": step} for step in (0, 8, 9)]})
+    held = bytes(table[:8]) + b"\x09\0\0\0" + bytes(table[12:])
+    waits = {3: tables, 6: late, 12: [{"table": bytearray(held)}]}
+    cases += order(MODEL.move, {"table": table, "step": 10}, waits) + order(MODEL.catch_up, {"table": table, "step": 10}, waits)
+    release = {"table": bytearray(held), "window": 0, "step": 16}
+    cases += order(MODEL.release, release, {3: tables, 10: [{"window": 2}, {"window": 2**64 - 1}], 11: [{"step": step} for step in (8, 17, 2**32 + 9)]})
     sign = {"table": table, "message": MESSAGE, "out": bytearray(352)}
     cases += order(MODEL.sign, sign, {3: tables, 7: long, 4: sizes("out", 0, 351, 353)})
     verify = {"h1": 2, "h2": 2, "key": key, "step": 9, "message": MESSAGE, "signature": signature}
@@ -230,6 +267,7 @@ def edges():
     """The edges that 01 wants run."""
     seed, table = bytearray(SEED), bytearray(table_size(12, 12))
     assert MODEL.make(12, 12, seed, table) == (kes.DONE, 2 * 4096) and seed == kes.ZEROS
+    MODEL.free(table)
     assert MODEL.move(table, 2**24 - 1) == (kes.DONE, 2**12 + 2**13 - 2)
     assert refused(MODEL.make, 13, 12, bytearray(SEED), bytearray(table_size(13, 12))) == kes.HEIGHT
     table = at(2, 2, 15)
@@ -264,5 +302,5 @@ def errors():
     return len(PLANTED)
 
 
-for group in [sums, trees, any_bytes, moves, catches_up, signatures, damaged, knows, refusals, edges, errors]:
+for group in [sums, trees, any_bytes, moves, catches_up, windows, signatures, damaged, knows, refusals, edges, errors]:
     print("model: %s: %d cases" % (group.__name__, group()))

@@ -41,6 +41,7 @@ def table_at(h1, h2, step):
     """With every answer given."""
     MODULE.answered, table, scheme = always, bytearray(table_size(h1, h2)), Scheme(MODULE)
     scheme.make(h1, h2, bytearray(range(32)), table)
+    scheme.free(table)
     scheme.move(table, step)
     return bytes(table)
 

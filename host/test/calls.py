@@ -7,7 +7,7 @@ import tempfile
 import time
 
 sys.dont_write_bytecode = True
-from lib.library import CATCH_UP, FAIR_MAKE, FAIR_MOVE, FAIR_SIGN, FAIR_VERIFY, HASH, MAKE, MOVE, READ_KEY, SIGN, VERIFY, Library
+from lib.library import CATCH_UP, FAIR_MAKE, FAIR_MOVE, FAIR_SIGN, FAIR_VERIFY, HASH, MAKE, MOVE, READ_KEY, RELEASE, SIGN, VERIFY, Library
 from lib.library import PLAIN_FILL, PLAIN_PATH, PLAIN_ROOT, PLAIN_SIGN
 from lib.modelled import NAMES, Model, fair, kes, plain, show
 
@@ -54,7 +54,7 @@ class Desk(Drawing):
 
     def make(self):
         h1, h2 = self.height(), self.height()
-        size = kes.table_size(h1, h2) if max(h1, h2) <= 12 else 264
+        size = kes.table_size(h1, h2) if max(h1, h2) <= 12 else 272
         seed = self.odd(bytes([self.draw.randrange(8)]) * 32)
         request = MAKE, h1, h2, 0, [seed, self.odd(bytes(size)), b""], self.module()
         answer, _, (_, table, _) = self.model.call(*request)
@@ -72,11 +72,20 @@ class Desk(Drawing):
         """By a move, or by a catch-up."""
         op, (h1, h2) = self.draw.choice([MOVE, CATCH_UP]), self.heights
         if self.draw.random() < 0.1 and max(h1, h2) < 3:
-            body = self.draw.randbytes(kes.table_size(h1, h2) - 8)
+            body = self.draw.randbytes(kes.table_size(h1, h2) - kes.HEADER)
             return op, 0, 0, self.step(), [kes.header(h1, h2, self.draw.randrange(kes.steps(h1, h2))) + body, b"", b""], self.module()
         request = op, 0, 0, self.step(), [self.odd(self.table), b"", b""], self.module()
         answer, _, (table, _, _) = self.model.call(*request)
         if answer & 0xFFFFFFFF == 0 and request[4][0] == self.table:
+            self.table = table
+        return request
+
+    def release(self):
+        """Mostly by a window, and mostly to a number at which it may stand."""
+        window = self.draw.choice([0, 0, 1, 1, 0, 1, 2, 2**32])
+        request = RELEASE, window, 0, self.step(), [self.odd(self.table), b"", b""]
+        answer, _, (table, _, _) = self.model.call(*request)
+        if answer == 0 and request[4][0] == self.table:
             self.table = table
         return request
 
@@ -105,7 +114,7 @@ class Desk(Drawing):
     def next(self):
         if not self.table:
             return self.make()
-        return self.draw.choice([self.make, self.read_key, self.move, self.move, self.move, self.move, self.sign, self.sign, self.verify, self.verify, self.hash])()
+        return self.draw.choice([self.make, self.read_key, self.move, self.move, self.move, self.move, self.release, self.release, self.release, self.sign, self.sign, self.verify, self.verify, self.hash])()
 
 
 class Fair(Drawing):

@@ -1,10 +1,8 @@
 #!/usr/bin/env python3
 """The example desk, crashed as crashes.py does it: every "done" has to have its good line, the journal no other lines, and no file what
 signs a step that is past. Needs desk/build before."""
-import functools
 import os
 import pathlib
-import re
 import subprocess
 import sys
 
@@ -13,11 +11,9 @@ sys.dont_write_bytecode = True
 sys.path.insert(0, str(ROOT / "host" / "model"))
 from lib import known_key
 from lib.crashes import EVERYTHING, NO_FILES, Program, by_name, crash, folder_of, need
-from journal import Judge
-from lib.known_key import H1, H2, SCHEME, SECRETS, TABLES
+from lib.known_key import H1, H2, SECRETS, TABLES
+from lib.shown import Shown, need_no_past, records, shown_by
 from lib.wrong_desks import WRONG
-
-JUDGE = Judge(SCHEME)
 
 # The child tree is left at step 4; the fourth tick jumps over steps.
 TOP_UPS = [(b"1111222233334444", 2500), (b"0000000000000001", 2_000_000), (b"1111222233334444", 1), (b"9999999999999999", 100)]
@@ -32,44 +28,6 @@ def rest_of_day(last):
     """The events after the top-up of this serial."""
     at = DAY.index(TOP_UPS[last - 1]) + 1 if last else 0
     return DAY[at:]
-
-
-# What a desk showed and wrote.
-
-
-class Shown:
-    """What people at the desk have seen: records that are done or on a chip or called stored, and the step."""
-
-    def __init__(self, text=b""):
-        found = [(kind, (int(serial), card, int(cents))) for kind, serial, card, cents in re.findall(rb"^(.*): serial (\d+), card (\d+), (\d+) cents", text, re.M)]
-        self.records = frozenset(record for _, record in found)
-        self.done = frozenset(record for kind, record in found if kind == b"done")
-        self.last = max((record[0] for kind, record in found if kind == b"last record"), default=0)
-        self.named = frozenset(record for kind, record in found if kind == b"last record")
-        self.step = max(map(int, re.findall(rb"^(?:step|open: step)[: ]+(\d+)", text, re.M)), default=0)
-
-
-@functools.cache
-def shown_by(text):
-    return Shown(text)
-
-
-@functools.cache
-def records(journal):
-    """A journal's records, all of them good by the program and by the model."""
-    said = subprocess.run([ROOT / "build" / "journal"], input=journal, stdout=subprocess.PIPE, check=True).stdout
-    need(said == JUDGE.output(journal), "the program and the model judge the journal differently")
-    lines = [line.split(b"\t") for line in journal.splitlines()[1:]]
-    total = sum(int(line[3]) for line in lines if len(line) == 5)
-    expected = b"".join(b"%d\tG\n" % n for n in range(2, len(lines) + 2)) + b"total\t%d\t%d\n" % (len(lines), total)
-    need(said == expected, f"the journal is not good: {said!r}")
-    return [(int(line[2]), line[1], int(line[3])) for line in lines], max((int(line[0]) for line in lines), default=0)
-
-
-@functools.cache
-def need_no_past(files, step):
-    for names, data in files:
-        need(not known_key.signs_past(data, step), f"{set(names)} can sign a step before {step}")
 
 
 class Desk(Program):

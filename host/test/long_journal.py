@@ -15,7 +15,7 @@ sys.path.insert(0, str(ROOT / "host" / "model"))
 import ed25519
 import kes
 from journal import Judge, message
-from lib.library import MAKE, MOVE, READ_KEY, SIGN, Library
+from lib.library import MAKE, MOVE, READ_KEY, RELEASE, SIGN, Library
 
 HEIGHTS = 6, 6
 PAGES = 256  # KiB: the kernel counts a process's pages in batches
@@ -27,6 +27,8 @@ class Desk:
     def __init__(self, library, lines):
         self.library, self.lines = library, lines
         _, _, (_, self.table, _) = library.call(MAKE, *HEIGHTS, 0, [bytes(range(32)), bytes(kes.table_size(*HEIGHTS)), b""])
+        for window in (0, 1):
+            _, _, (self.table, _, _) = library.call(RELEASE, window, 0, kes.steps(*HEIGHTS), [self.table, b"", b""])
         _, _, (_, key, _) = library.call(READ_KEY, 0, 0, 0, [self.table, bytes(32), b""])
         self.header = b"kes2\t%d\t%d\t%s\n" % (*HEIGHTS, key.hex().encode())
         self.step = self.cents = 0

@@ -17,6 +17,7 @@ LIST = {
 }
 BEYOND = {
     "catching up": ["rules/CatchUp"],
+    "two windows on one key": ["rules/Windows"],
     "the fair-day cache": ["fair/Day", "fair/Listed", "edge/EdgeFair"],
     "the plain engine": ["plain_rules/Equal", "plain_rules/Listed", "edge/EdgePlain"],
     "what a card has had": ["summary/Listed", "summary/History", "edge/EdgeCards"],

@@ -9,7 +9,7 @@ import sys
 import tempfile
 
 sys.dont_write_bytecode = True
-from lib.library import CATCH_UP, FAIR_MAKE, FAIR_SIGN, MAKE, MOVE, PLAIN_FILL, PLAIN_SIGN, SIGN, Library
+from lib.library import CATCH_UP, FAIR_MAKE, FAIR_SIGN, MAKE, MOVE, PLAIN_FILL, PLAIN_SIGN, RELEASE, SIGN, Library
 from lib.modelled import NAMES, Model, fair, kes, plain, show, sodium
 
 ROOT = pathlib.Path(__file__).resolve().parents[2]
@@ -21,10 +21,12 @@ EVERY = 2**32
 def askings(model):
     """Each call, over what it is lent. What it may write to is no zeros, so that clearing shows."""
     master, seeds, nines = bytes(range(32)), bytes(range(96)), b"\x09"
-    _, _, (_, fresh) = model.call(MAKE, 2, 2, 0, [master, bytes(712)])
+    _, _, (_, fresh) = model.call(MAKE, 2, 2, 0, [master, bytes(720)])
+    _, _, (fresh,) = model.call(RELEASE, 0, 0, 16, [fresh])
+    _, _, (fresh,) = model.call(RELEASE, 1, 0, 16, [fresh])
     tables = [fresh] + [model.call(MOVE, 0, 0, step, [fresh])[2][0] for step in range(1, 16)]
     cache = model.call(FAIR_MAKE, 3, 0, 0, [master, seeds, bytes(fair.cache_size(3)), bytes(32)])[2][2]
-    yield MAKE, 2, 2, 0, [master, nines * 712]
+    yield MAKE, 2, 2, 0, [master, nines * 720]
     for a, b in itertools.combinations(range(16), 2):
         yield MOVE, 0, 0, b, [tables[a]]
         yield CATCH_UP, 0, 0, b, [tables[a]]

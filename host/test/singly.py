@@ -5,7 +5,7 @@ import sys
 import tempfile
 
 sys.dont_write_bytecode = True
-from lib.library import MAKE, MOVE, Library
+from lib.library import MAKE, MOVE, RELEASE, Library
 from lib.modelled import kes
 
 HEIGHTS = range(7)
@@ -14,6 +14,8 @@ HEIGHTS = range(7)
 def stepped(library, h):
     """The key pairs made by the moves of a new key, and what the moves answer in all."""
     _, _, (_, table) = library.call(MAKE, 0, h, 0, [bytes(range(32)), bytes(kes.table_size(0, h))])
+    for window in (0, 1):
+        _, _, (table,) = library.call(RELEASE, window, 0, kes.steps(0, h), [table])
     made = told = 0
     for step in range(1, kes.steps(0, h)):
         answer, (public_keys, _, _, _), (table,) = library.call(MOVE, 0, 0, step, [table])

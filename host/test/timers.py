@@ -1,6 +1,6 @@
 #!/usr/bin/env python3
 """Request 1's law, from C and against the independent model: at four pairs of heights every two steps, those past the end too, are
-caught up to in both orders and twice, on good tables and on damaged ones, whose bytes behind a good header are anything. The table is
+caught up to in both orders and twice, on good tables and on damaged ones, whose bytes behind a good header are anything, with windows that have released all or a part. The table is
 the same in either order, a second asking is done with count 0 and leaves table and tally, and 5 is never answered. Needs desk/build before."""
 import itertools
 import random
@@ -46,13 +46,15 @@ class Timers:
 
 
 def tables(model, draw, h1, h2):
-    """Good ones at two steps, and damaged ones: any bytes behind a good header, and behind a bad one."""
+    """Good ones at two steps, and damaged ones: any bytes behind a good header, and behind a bad one; with windows that have released all or a part."""
     end = kes.steps(h1, h2)
     _, _, (_, fresh) = model.call(MAKE, h1, h2, 0, [bytes(range(32)), bytes(kes.table_size(h1, h2))])
+    yield kes.header(h1, h2, 0, end - 1, end // 2 + 1) + fresh[kes.HEADER :]
+    fresh = kes.header(h1, h2, 0) + fresh[kes.HEADER :]
     yield fresh
     yield model.call(CATCH_UP, 0, 0, end // 3, [fresh])[2][0]
-    yield kes.header(h1, h2, end // 3) + draw.randbytes(len(fresh) - 8)
-    yield kes.header(h1, h2, end) + fresh[8:]
+    yield kes.header(h1, h2, end // 3, end - 1, end) + draw.randbytes(len(fresh) - kes.HEADER)
+    yield kes.header(h1, h2, end) + fresh[kes.HEADER :]
 
 
 def main():

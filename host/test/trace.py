@@ -225,6 +225,7 @@ class Blank:
 def table(scheme, seed, h1, h2, step):
     made = bytearray(kes.table_size(h1, h2))
     scheme(Blank).make(h1, h2, bytearray(seed), made)
+    scheme(Blank).free(made)
     scheme(Blank).move(made, step)
     return bytes(made)
 

@@ -7,7 +7,7 @@ use native.Mathlib.Omega.{arith}
 use lib.Arith.{digits-div, digits-mod}
 use Rattle.refusal.specs.Numbers.{numberOf}
 use Rattle.refusal.specs.declared.Refusal.{Refusal}
-use Rattle.refusal.specs.declared.Refusal.the-variants.{Height, SeedOrKey, Table, Length, NotLater, PastEnd, TooLong, Entries, Unanswered, Full, CardOrAmount, CountFull}
+use Rattle.refusal.specs.declared.Refusal.the-variants.{Height, SeedOrKey, Table, Length, NotLater, PastEnd, TooLong, Entries, Unanswered, Window, Lowered, NotReleased, Full, CardOrAmount, CountFull}
 use Rattle.rules.specs.Answers.{Told, grownTold}
 use Rattle.rules.specs.Calls.{makeTallied, moveTallied, catchTallied}
 use Rattle.rules.specs.declared.Grown.{Grown}
@@ -28,6 +28,9 @@ in-range PastEnd = (omega arith, omega arith)
 in-range TooLong = (omega arith, omega arith)
 in-range Entries = (omega arith, omega arith)
 in-range Unanswered = (omega arith, omega arith)
+in-range Window = (omega arith, omega arith)
+in-range Lowered = (omega arith, omega arith)
+in-range NotReleased = (omega arith, omega arith)
 in-range Full = (omega arith, omega arith)
 in-range CardOrAmount = (omega arith, omega arith)
 in-range CountFull = (omega arith, omega arith)

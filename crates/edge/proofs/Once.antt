@@ -2,7 +2,7 @@
 use mathlib.Core.Path.{_≡_, sym, _∙_}
 use mathlib.Core.List.{List}
 use Prim.Native.Nat.{ℕ}
-use Rattle.edge.specs.Edge.{EdgeMakes, EdgeReads, EdgeMoves, EdgeCatchesUp, EdgeSigns, EdgeVerifies, EdgeHashes}
+use Rattle.edge.specs.Edge.{EdgeMakes, EdgeReads, EdgeMoves, EdgeCatchesUp, EdgeReleases, EdgeSigns, EdgeVerifies, EdgeHashes}
 use Rattle.edge.specs.EdgeFair.{EdgeFairMakes, EdgeFairMoves, EdgeFairSigns, EdgeFairVerifies}
 use Rattle.edge.specs.EdgePlain.{EdgeFills, EdgeReadsRoot, EdgeReadsPath, EdgePlainSigns}
 use Rattle.edge.specs.EdgeCards.{EdgeEnters, EdgeFinds}
@@ -31,6 +31,9 @@ move-once d step t x y = (joined (x .answers) (y .answers), joined (x .leaves) (
 pub catch-once : (d : List ℕ) (step t : ℕ) {a b : ℕ} {d₁ d₂ : List ℕ} {t₁ t₂ : ℕ} → EdgeCatchesUp d step t a d₁ t₁ → EdgeCatchesUp d step t b d₂ t₂
     → (a ≡ b) × (d₁ ≡ d₂) × (t₁ ≡ t₂)
 catch-once d step t x y = (joined (x .answers) (y .answers), joined (x .leaves) (y .leaves), joined (x .tallies) (y .tallies))
+
+pub release-once : (d : List ℕ) (w n : ℕ) {a b : ℕ} {d₁ d₂ : List ℕ} → EdgeReleases d w n a d₁ → EdgeReleases d w n b d₂ → (a ≡ b) × (d₁ ≡ d₂)
+release-once d w n x y = (joined (x .numbers) (y .numbers), joined (x .leaves) (y .leaves))
 
 pub sign-once : (d m out : List ℕ) (t : ℕ) {a b : ℕ} {d₁ d₂ m₁ m₂ o₁ o₂ : List ℕ} {t₁ t₂ : ℕ} → EdgeSigns d m out t a d₁ m₁ o₁ t₁
     → EdgeSigns d m out t b d₂ m₂ o₂ t₂ → (a ≡ b) × (d₁ ≡ d₂) × (m₁ ≡ m₂) × (o₁ ≡ o₂) × (t₁ ≡ t₂)

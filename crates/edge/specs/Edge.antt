@@ -5,7 +5,7 @@ use mathlib.Core.List.{List}
 use Rattle.blake2b.specs.Calls as blake2b
 use Rattle.refusal.specs.Numbers.{answerNumber}
 use Rattle.rules.specs.Answers.{Told, grownTold, verdictNumber}
-use Rattle.rules.specs.Calls.{makeOutcome, makeTallied, keyOutcome, moveOutcome, moveTallied, catchOutcome, catchTallied, signOutcome, signTallied, verifyOutcome}
+use Rattle.rules.specs.Calls.{makeOutcome, makeTallied, keyOutcome, moveOutcome, moveTallied, catchOutcome, catchTallied, releaseOutcome, signOutcome, signTallied, verifyOutcome}
 use Rattle.ed25519.specs.Tally.{Run, asked}
 
 -- make, move and catch-up answer number + 2^32 * count
@@ -32,6 +32,10 @@ pub record EdgeCatchesUp (d : List ℕ) (b t answer : ℕ) (d′ : List ℕ) (t�
   pub answers : answer ≡ toldWord (grownTold (catchTallied d b t .answer))
   pub leaves : d′ ≡ catchTallied d b t .table
   pub tallies : t′ ≡ asked (catchOutcome d b .calls) t .tally
+
+pub record EdgeReleases (d : List ℕ) (w n number : ℕ) (d′ : List ℕ) : Type 0 where
+  pub numbers : number ≡ answerNumber (releaseOutcome d w n .answer)
+  pub leaves : d′ ≡ releaseOutcome d w n .table
 
 pub record EdgeSigns (d m out : List ℕ) (t number : ℕ) (d′ m′ out′ : List ℕ) (t′ : ℕ) : Type 0 where
   pub numbers : number ≡ answerNumber (signTallied d m out t .answer)

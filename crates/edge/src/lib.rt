@@ -1,5 +1,5 @@
 // The C edge: each answer as its number, on plain numbers and byte slices. include/kes.h declares these functions.
-ghost use Rattle.edge.specs.Edge.{EdgeCatchesUp, EdgeHashes, EdgeMakes, EdgeMoves, EdgeReads, EdgeSigns, EdgeVerifies};
+ghost use Rattle.edge.specs.Edge.{EdgeCatchesUp, EdgeHashes, EdgeMakes, EdgeMoves, EdgeReads, EdgeReleases, EdgeSigns, EdgeVerifies};
 
 mod card_index;
 mod fair_day;
@@ -42,6 +42,13 @@ pub extern "C" fn kes_catch_up(table: &mut [u8], step: u64, tally: &mut u64) -> 
     ensures { λ r. ⌜ EdgeCatchesUp (now (table .entry)) step (now (tally .entry)) r (now (table .exit)) (now (tally .exit)) ⌝ }
 {
     told(key::catch_up(table, step, tally))
+}
+
+#[no_mangle]
+pub extern "C" fn kes_release(table: &mut [u8], window: u64, step: u64) -> u32
+    ensures { λ r. ⌜ EdgeReleases (now (table .entry)) window step r (now (table .exit)) ⌝ }
+{
+    answered(key::release(table, window, step))
 }
 
 #[no_mangle]

@@ -1,2 +1,3 @@
 pub mod Bodies
+pub mod Fields
 pub mod Outcomes

@@ -8,11 +8,12 @@ use lib.ListN.{length, replicate, take, drop, take-append-drop}
 use lib.Seq.{take-all}
 use borrow.Author.Tests.{le-ltb, lt-ltb, le-leb, lt-leb, eq-eqb, ne-eqb, not-true, not-false}
 use Rattle.fields.specs.Fields.{part, put}
+use Rattle.fields.specs.Numbers.{fourBytes}
 use Rattle.fields.proofs.Laws.{put-whole, tail-whole, tail-back, drop-back}
 use Rattle.fields.specs.Tests.{pick}
 use Rattle.blake2b.specs.Calls.{limit}
 use Rattle.refusal.specs.declared.Refusal.{Refusal}
-use Rattle.refusal.specs.declared.Refusal.the-variants.{Height, SeedOrKey, Length, NotLater, PastEnd, TooLong, Unanswered}
+use Rattle.refusal.specs.declared.Refusal.the-variants.{Height, SeedOrKey, Length, NotLater, PastEnd, TooLong, Unanswered, Window, Lowered, NotReleased}
 use Rattle.ed25519.specs.Tally.{Run, asked}
 use Rattle.ed25519.specs.Inside.{Asks, Leaves}
 use Rattle.tree.specs.Tree.{rootIn}
@@ -21,11 +22,12 @@ use Rattle.tree.specs.Answers.{grewOf}
 use Rattle.tree.specs.declared.moving.Grew.{Grew}
 use Rattle.tree.specs.declared.moving.Grew.the-variants as grew
 use Rattle.rules.specs.Part.{partSignature, partVerdict}
-use Rattle.rules.specs.Table.{headerSize, steps, tableSize, signatureSize, header, atStep, headerBytes, bodyIn, headerOf}
-use Rattle.key.specs.Inside.{grownOf, answerOf}
+use Rattle.rules.specs.Table.{headerSize, steps, tableSize, signatureSize, header, atStep, headerBytes, windowAt, bodyIn, headerOf}
+use Rattle.key.specs.Inside.{grownOf, answerOf, lowers, SetsNumber}
 use Rattle.rules.specs.Calls.{tooHigh, makeWork, Makes, MakeOutcome, notMade, made, makeOutcome, makeTallied}
 use Rattle.rules.specs.Calls.{Reads, KeyOutcome, notRead, keyRead, keyUnder, keyOutcome}
 use Rattle.rules.specs.Calls.{moveWork, Moves, MoveOutcome, notMoved, moved, moveUnder, moveOutcome, moveTallied}
+use Rattle.rules.specs.Calls.{Releases, ReleaseOutcome, refusedRelease, released, stoodFor, releaseUnder, releaseOutcome}
 use Rattle.rules.specs.Calls.{CatchesUp, stayed, catchOutcome, catchTallied}
 use Rattle.rules.specs.Calls.{Signs, SignOutcome, notSigned, signed, signUnder, signOutcome, signTallied}
 use Rattle.rules.specs.Calls.{Verifies, verdictOf, verifyOutcome}
@@ -88,7 +90,7 @@ module _ (h1 h2 : ℕ) (s d : List ℕ) (t : ℕ) where
             let kept : ys ≡ bodyIn d = w′ .leaves .is ∙ rw y in
             makes (made h1 h2 (makeWork h1 h2 s)) makes-on (rw y) (rw y) (tail-back d ys headerSize ∙ rw (y, kept) (take-append-drop headerSize d)) (w′ .tallies)
 
-        pub make-done : {k : ℕ} {s′ d′ : List ℕ} → a ≡ grew.Count k → d′ ≡ headerBytes (header h1 h2 0) ++ bodyIn (relaid d ys) → s′ ≡ replicate (length s) 0
+        pub make-done : {k : ℕ} {s′ d′ : List ℕ} → a ≡ grew.Count k → d′ ≡ headerBytes (header h1 h2 0 0 0) ++ bodyIn (relaid d ys) → s′ ≡ replicate (length s) 0
             → Makes h1 h2 s d t (grown.Done k) s′ d′ t′
         make-done {k} ea ed es =
             let w′ = made-work in
@@ -150,11 +152,20 @@ module _ (d : List ℕ) (b t : ℕ) where
       unfolding moveOutcome moveUnder
       move-not-later p = refused NotLater (rw (← e, g, lt-leb (steps (x .h1) (x .h2)) b (omega arith), le-leb b (x .step) p))
 
-      module _ (l : headerSize ≤ length d) (p : x .step < b) {a : Grew} {t′ : ℕ} {ys : List ℕ}
+      pub move-first-waits : x .step < b → x .first < b → Moves d b t (grown.Refused NotReleased) d t
+      unfolding moveOutcome moveUnder
+      move-first-waits p q = refused NotReleased (rw (← e, g, lt-leb (steps (x .h1) (x .h2)) b (omega arith), lt-leb b (x .step) p, lt-leb b (x .first) q))
+
+      pub move-second-waits : x .step < b → b ≤ x .first → x .second < b → Moves d b t (grown.Refused NotReleased) d t
+      unfolding moveOutcome moveUnder
+      move-second-waits p q r =
+          refused NotReleased (rw (← e, g, lt-leb (steps (x .h1) (x .h2)) b (omega arith), lt-leb b (x .step) p, le-leb b (x .first) q, lt-leb b (x .second) r))
+
+      module _ (l : headerSize ≤ length d) (p : x .step < b) (v : b ≤ x .first) (v′ : b ≤ x .second) {a : Grew} {t′ : ℕ} {ys : List ℕ}
           (w : Commits (moveWork x (part d headerSize (length d - headerSize)) b) t a t′ (part d headerSize (length d - headerSize)) ys) where
         moves-on : moveOutcome d b ≡ moved x b (moveWork x (bodyIn d) b)
         unfolding moveOutcome moveUnder
-        moves-on = rw (← e, g, lt-leb (steps (x .h1) (x .h2)) b (omega arith), lt-leb b (x .step) p)
+        moves-on = rw (← e, g, lt-leb (steps (x .h1) (x .h2)) b (omega arith), lt-leb b (x .step) p, le-leb b (x .first) v, le-leb b (x .second) v′)
 
         work : Commits (moveWork x (bodyIn d) b) t a t′ (bodyIn d) ys
         work = rw (← tail-whole d headerSize) w
@@ -201,6 +212,50 @@ module _ (d : List ℕ) (b t : ℕ) where
     pub catch-moves : {a : Grown} {d′ : List ℕ} {t′ : ℕ} → x .step < b → Moves d b t a d′ t′ → CatchesUp d b t a d′ t′
     unfolding catchTallied moveTallied
     catch-moves l m = let e′ = same-call l in record { answers = m .answers ∙ rw e′; leaves = m .leaves ∙ rw e′; tallies = m .tallies ∙ rw e′ }
+
+-- a window's number set
+module _ (d : List ℕ) (at stood n end : ℕ) where
+  pub set-low : n < stood → SetsNumber d at stood n end (answer.Refused Lowered) d
+  set-low l = record { answers = rw (lt-ltb n stood l); leaves = rw (lt-ltb n stood l) }
+
+  pub set-past : stood ≤ n → end < n → SetsNumber d at stood n end (answer.Refused Lowered) d
+  set-past l p = record { answers = rw (le-ltb n stood l, lt-ltb end n p); leaves = rw (le-ltb n stood l, lt-ltb end n p) }
+
+  pub set-done : {d′ : List ℕ} → stood ≤ n → n ≤ end → d′ ≡ put d at 4 (fourBytes n) → SetsNumber d at stood n end answer.Done d′
+  set-done l u e = record { answers = rw (le-ltb n stood l, le-ltb end n u); leaves = e ∙ rw (le-ltb n stood l, le-ltb end n u) }
+
+-- release
+module _ (d : List ℕ) (w n : ℕ) where
+  gives : (o : ReleaseOutcome) {a : Answer} {d′ : List ℕ} → releaseOutcome d w n ≡ o → a ≡ o .answer → d′ ≡ o .table → Releases d w n a d′
+  gives o e ea ed = record { answers = ea ∙ ap (λ (x : ReleaseOutcome). x .answer) (sym e); leaves = ed ∙ ap (λ (x : ReleaseOutcome). x .table) (sym e) }
+
+  pub release-refused : {f : Found} {why : Refusal} {a : Answer} → f ≡ headerOf d → f ≡ found.Refused why → a ≡ answerOf f → Releases d w n a d
+  unfolding releaseOutcome releaseUnder
+  release-refused {why = why} e r ea = gives (refusedRelease why d) (rw (← e, r)) (ea ∙ ap answerOf r) refl
+
+  module _ {f : Found} {x : Header} (e : f ≡ headerOf d) (g : f ≡ found.Good x) where
+    pub release-no-window : 1 < w → Releases d w n (answer.Refused Window) d
+    unfolding releaseOutcome releaseUnder
+    release-no-window l = gives (refusedRelease Window d) (rw (← e, g, lt-ltb 1 w l)) refl refl
+
+    -- by window 0, and by window 1
+    module _ {end : ℕ} (en : end ≡ steps (x .h1) (x .h2)) {a : Answer} {d′ : List ℕ} where
+      set : (at stood : ℕ) → SetsNumber d at stood n end a d′ → w ≤ 1 → at ≡ windowAt w → stood ≡ stoodFor x w → Releases d w n a d′
+      unfolding releaseOutcome releaseUnder
+      set at stood k l ea es = go (lowers stood n end) refl
+        where
+          chosen : (q : Bool) → lowers stood n end ≡ q → releaseOutcome d w n ≡ pick q (refusedRelease Lowered d) (released d w n)
+          chosen q z = rw (← e, g, le-ltb 1 w l, ← en, ← es, z)
+
+          go : (q : Bool) → lowers stood n end ≡ q → Releases d w n a d′
+          go true z = gives (refusedRelease Lowered d) (chosen true z) (k .answers ∙ rw z) (k .leaves ∙ rw z)
+          go false z = gives (released d w n) (chosen false z) (k .answers ∙ rw z) (k .leaves ∙ rw (z, ea))
+
+      pub release-first : w ≡ 0 → SetsNumber d 8 (x .first) n end a d′ → Releases d w n a d′
+      release-first z k = set 8 (x .first) k (omega arith) (rw z) (rw z)
+
+      pub release-second : w ≤ 1 → (w ≡ 0 → ⊥) → SetsNumber d 12 (x .second) n end a d′ → Releases d w n a d′
+      release-second l f k = let z : w ≡ 1 = omega arith in set 12 (x .second) k l (rw z) (rw z)
 
 -- sign, under the tally t
 module _ (d m out : List ℕ) (t : ℕ) where

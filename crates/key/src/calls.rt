@@ -1,5 +1,8 @@
-// The six calls. Each checks in document 01's order, and writes nothing before all its checks have passed.
-ghost use Rattle.rules.specs.Calls.{CatchesUp, Makes, Moves, Reads, Signs, Verifies};
+// The seven calls. Each checks in document 01's order, and writes nothing before all its checks have passed.
+ghost use Prim.Native.Nat.{_+_, _≤_};
+ghost use lib.ListN.{length};
+ghost use Rattle.rules.specs.Calls.{CatchesUp, Makes, Moves, Reads, Releases, Signs, Verifies};
+ghost use Rattle.key.specs.Inside.{SetsNumber};
 use crate::body::accepted;
 use crate::body::make_body;
 use crate::body::move_body;
@@ -8,7 +11,9 @@ use crate::header::answer_of;
 use crate::header::grown_of;
 use crate::header::put_header;
 use crate::header::read_header;
+use crate::layout::FIRST_AT;
 use crate::layout::HEADER_SIZE;
+use crate::layout::SECOND_AT;
 use crate::layout::signature_size;
 use crate::layout::steps;
 use crate::layout::table_size;
@@ -42,7 +47,16 @@ pub fn make(h1: u64, h2: u64, seed: &mut [u8], table: &mut [u8], tally: &mut u64
     let Grew::Count(count) = grown else {
         return Grown::Refused(Refusal::Unanswered);
     };
-    put_header(table, Header { h1, h2, step: 0 });
+    put_header(
+        table,
+        Header {
+            h1,
+            h2,
+            step: 0,
+            first: 0,
+            second: 0,
+        },
+    );
     fields::zero(seed);
     Grown::Done(count as u64)
 }
@@ -80,13 +94,30 @@ pub fn move_to(table: &mut [u8], step: u64, tally: &mut u64) -> Grown
     if step <= old {
         return Grown::Refused(Refusal::NotLater);
     }
+    let first = header.first;
+    let second = header.second;
+    if first < step {
+        return Grown::Refused(Refusal::NotReleased);
+    }
+    if second < step {
+        return Grown::Refused(Refusal::NotReleased);
+    }
     let grown = move_body(&mut table[HEADER_SIZE..], header, step, tally);
     let Grew::Count(count) = grown else {
         return Grown::Refused(Refusal::Unanswered);
     };
     let h1 = header.h1;
     let h2 = header.h2;
-    put_header(table, Header { h1, h2, step });
+    put_header(
+        table,
+        Header {
+            h1,
+            h2,
+            step,
+            first,
+            second,
+        },
+    );
     Grown::Done(count as u64)
 }
 
@@ -104,6 +135,43 @@ pub fn catch_up(table: &mut [u8], step: u64, tally: &mut u64) -> Grown
         return Grown::Done(count);
     }
     move_to(table, step, tally)
+}
+
+// Sets the first step that a window still needs, and changes nothing else.
+pub fn release(table: &mut [u8], window: u64, step: u64) -> Answer
+    ensures { λ r. ⌜ Releases (now (table .entry)) window step r (now (table .exit)) ⌝ }
+{
+    let found = read_header(table);
+    let Found::Good(header) = found else {
+        return answer_of(found);
+    };
+    let step = step as usize;
+    let end = steps(header.h1, header.h2);
+    if 1 < window {
+        return Answer::Refused(Refusal::Window);
+    }
+    if window == 0 {
+        let stood = header.first;
+        return set_number(table, FIRST_AT, stood, step, end);
+    }
+    let stood = header.second;
+    set_number(table, SECOND_AT, stood, step, end)
+}
+
+// The number of a window in its four bytes, if it is not lowered and not past the end.
+fn set_number(table: &mut [u8], at: usize, stood: usize, step: usize, end: usize) -> Answer
+    requires { ⌜ at + 4 ≤ length (now table) ⌝ }
+    ensures { λ r. ⌜ SetsNumber (now (table .entry)) at stood step end r (now (table .exit)) ⌝ }
+{
+    if step < stood {
+        return Answer::Refused(Refusal::Lowered);
+    }
+    if end < step {
+        return Answer::Refused(Refusal::Lowered);
+    }
+    let number = fields::four_bytes(step);
+    fields::write(table, at, &number);
+    Answer::Done
 }
 
 // Writes the signature over message by the key in table, at its step.

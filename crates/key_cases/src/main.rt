@@ -1,4 +1,4 @@
-// The six calls under the stand-in, from the seed 1, 2, .., 32: a day of single steps at four pairs of heights, with refused moves and catch-ups that stay
+// The seven calls under the stand-in, from the seed 1, 2, .., 32: a day of single steps at four pairs of heights, with refused moves and catch-ups that stay
 // between; all pairs of jumps; document 01's edges; and every place at which a module call can fail.
 ghost use mathlib.Core.Path.{_≡_};
 ghost use Prim.Native.Nat.{_≤_};
@@ -17,10 +17,10 @@ use libc::STDOUT_FILENO;
 use refusal::Answer;
 
 // Room for the longest table. The contract gives its length alone, so that no goal spells the bytes out.
-fn room() -> [u8; 2952]
-    ensures { λ r. ⌜ 2952 ≡ length r ⌝ }
+fn room() -> [u8; 2960]
+    ensures { λ r. ⌜ 2960 ≡ length r ⌝ }
 {
-    [0; 2952]
+    [0; 2960]
 }
 
 // A byte more than the longest message.
@@ -54,6 +54,12 @@ fn move_to(table: &mut [u8], step: u64) -> Grown {
 fn catch_up(table: &mut [u8], step: u64) -> Grown {
     let mut tally = ANSWERED;
     key::catch_up(table, step, &mut tally)
+}
+
+// Both windows release all.
+fn free(table: &mut [u8], end: u64) {
+    key::release(table, 0, end);
+    key::release(table, 1, end);
 }
 
 fn sign(table: &[u8], message: &[u8], signature: &mut [u8]) -> Answer {
@@ -117,8 +123,14 @@ fn step(h1: u64, h2: u64, t: u64, end: u64, table: &mut [u8], signature: &mut [u
     end_line();
 }
 
-fn day(h1: u64, h2: u64, end: u64, table: &mut [u8], signature: &mut [u8]) {
+// The line of a key, whose windows then release all.
+fn begin(h1: u64, h2: u64, end: u64, table: &mut [u8]) {
     made(h1, h2, table);
+    free(table, end);
+}
+
+fn day(h1: u64, h2: u64, end: u64, table: &mut [u8], signature: &mut [u8]) {
+    begin(h1, h2, end, table);
     let mut t: u64 = 0;
     while t < end {
         step(h1, h2, t, end, table, signature);
@@ -140,9 +152,18 @@ fn count_of(answer: Grown) -> u64 {
     }
 }
 
-// A key made, moved to step a, and from there to step b.
-fn with_jump(before: Folded, h1: u64, h2: u64, a: u64, b: u64, table: &mut [u8]) -> Folded {
+// A key made for no window, moved to step a, and from there to step b.
+fn with_jump(
+    before: Folded,
+    h1: u64,
+    h2: u64,
+    a: u64,
+    b: u64,
+    end: u64,
+    table: &mut [u8],
+) -> Folded {
     make(h1, h2, table);
+    free(table, end);
     move_to(table, a);
     let count = count_of(move_to(table, b));
     let chain = before.chain;
@@ -156,7 +177,7 @@ fn with_jumps_from(before: Folded, h1: u64, h2: u64, a: u64, end: u64, table: &m
     let mut all = before;
     let mut b = a;
     while b < end {
-        let more = with_jump(all, h1, h2, a, b, table);
+        let more = with_jump(all, h1, h2, a, b, end, table);
         all = more;
         b += 1;
     }
@@ -188,22 +209,68 @@ fn jumps(h1: u64, h2: u64, end: u64, table: &mut [u8]) {
 }
 
 fn key_of(h1: u64, h2: u64, end: u64, table: &mut [u8], signature: &mut [u8])
-    requires { ⌜ (h1 ≤ 12) × (h2 ≤ 12) × (length (now table) ≡ 2952) × (length (now signature) ≡ 2952) ⌝ }
-    ensures { λ _. ⌜ (length (now (table .exit)) ≡ 2952) × (length (now (signature .exit)) ≡ 2952) ⌝ }
+    requires { ⌜ (h1 ≤ 12) × (h2 ≤ 12) × (length (now table) ≡ 2960) × (length (now signature) ≡ 2960) ⌝ }
+    ensures { λ _. ⌜ (length (now (table .exit)) ≡ 2960) × (length (now (signature .exit)) ≡ 2960) ⌝ }
 {
-    let size = (264 + 128 * h1 + 96 * h2) as usize;
+    let size = (272 + 128 * h1 + 96 * h2) as usize;
     let signed = (224 + 32 * (h1 + h2)) as usize;
     day(h1, h2, end, &mut table[0..size], &mut signature[0..signed]);
     jumps(h1, h2, end, &mut table[0..size]);
 }
 
+fn show_release(table: &mut [u8], window: u64, step: u64) {
+    show_answer(key::release(table, window, step));
+}
+
+// Releases that are refused, one that is done, and moves that wait for the other window.
+fn one_window(table: &mut [u8]) {
+    show_grown(move_to(table, 1));
+    show_release(table, 2, 1);
+    show_release(table, 4294967296, 1);
+    show_release(table, 0, 17);
+    show_release(table, 0, 5);
+    show_grown(move_to(table, 1));
+}
+
+fn both_windows(table: &mut [u8]) {
+    show_release(table, 1, 3);
+    show_grown(catch_up(table, 4));
+    show_grown(catch_up(table, 3));
+}
+
+// A release lowered, one that stays, one to the end, and moves up to the lower number.
+fn last_windows(table: &mut [u8]) {
+    show_release(table, 0, 4);
+    show_release(table, 0, 5);
+    show_release(table, 1, 16);
+    show_grown(move_to(table, 6));
+    show_grown(move_to(table, 5));
+}
+
+// The line of two windows.
+fn windows(table: &mut [u8]) {
+    make(2, 2, table);
+    io::write_all(STDOUT_FILENO, b"windows");
+    one_window(table);
+    both_windows(table);
+    last_windows(table);
+    show_field(digest(table));
+    end_line();
+}
+
+fn all_windows() {
+    let mut table = room();
+    windows(&mut table[0..720]);
+}
+
 // The line of the tallest key: made, moved, and one that is taller.
 fn tallest(table: &mut [u8])
-    requires { ⌜ length (now table) ≡ 2952 ⌝ }
-    ensures { λ _. ⌜ length (now (table .exit)) ≡ 2952 ⌝ }
+    requires { ⌜ length (now table) ≡ 2960 ⌝ }
+    ensures { λ _. ⌜ length (now (table .exit)) ≡ 2960 ⌝ }
 {
     io::write_all(STDOUT_FILENO, b"tallest");
     show_grown(make(12, 12, table));
+    free(table, 16777216);
     show_grown(move_to(table, 16777215));
     show_field(digest(table));
     show_grown(make(13, 0, table));
@@ -278,6 +345,7 @@ fn show_move(table: &mut [u8], step: u64, tally: &mut u64) {
 // A key of heights 2 and 2 at this step.
 fn at_step(a: u64, table: &mut [u8]) {
     make(2, 2, table);
+    free(table, 16);
     move_to(table, a);
 }
 
@@ -378,7 +446,7 @@ fn unanswered(table: &mut [u8], signature: &mut [u8]) {
 fn all_unanswered() {
     let mut table = room();
     let mut signature = room();
-    unanswered(&mut table[0..712], &mut signature[0..352]);
+    unanswered(&mut table[0..720], &mut signature[0..352]);
 }
 
 // The tallest key, whose tally wraps before the call that fails.
@@ -395,8 +463,9 @@ fn main() {
     key_of(1, 0, 2, &mut table, &mut signature);
     key_of(0, 1, 2, &mut table, &mut signature);
     key_of(3, 2, 32, &mut table, &mut signature);
+    all_windows();
     tallest(&mut table);
-    messages(&mut table[0..264], &message, &mut signature[0..224]);
+    messages(&mut table[0..272], &message, &mut signature[0..224]);
     all_unanswered();
     tallest_unanswered();
 }

@@ -1,17 +1,18 @@
--- The number of each refusal: the first column of document 01's table "Numbers a caller can get", 8 of request 3, the fair-day cache, 9 of request 4, and
--- 13 to 15 of request 9, the card index; and of an answer. 100, well formed but not accepted, is no refusal: a verdict gives it.
+-- The number of each refusal: the first column of document 01's table "Numbers a caller can get", 8 of request 3, the fair-day cache, 9 of request 4,
+-- 10 to 12 of request 8, two windows on one key, and 13 to 15 of request 9, the card index; and of an answer. 100, well formed but not accepted, is no
+-- refusal: a verdict gives it.
 use Prim.Native.Nat.{ℕ}
 use Rattle.refusal.specs.declared.Answer.{Answer}
 use Rattle.refusal.specs.declared.Answer.the-variants.{Done, Refused}
 use Rattle.refusal.specs.declared.Refusal.{Refusal}
-use Rattle.refusal.specs.declared.Refusal.the-variants.{Height, SeedOrKey, Table, Length, NotLater, PastEnd, TooLong, Entries, Unanswered, Full, CardOrAmount, CountFull}
+use Rattle.refusal.specs.declared.Refusal.the-variants.{Height, SeedOrKey, Table, Length, NotLater, PastEnd, TooLong, Entries, Unanswered, Window, Lowered, NotReleased, Full, CardOrAmount, CountFull}
 
 abbrev pub numberOf : Refusal → ℕ
 -- a height above 12
 numberOf Height = 1
 -- seed or verification key not 32 bytes; a fair day's seeds not 32N
 numberOf SeedOrKey = 2
--- table under 8 bytes, height byte above 12, bytes 2 or 3 not zero, length not exact, or step at or past T;
+-- table under 16 bytes, height byte above 12, byte 2 not 1, byte 3 not zero, length not exact, step at or past T, or a window's number above T;
 -- cache under 4 bytes, its N outside 1 to 256, length not exact, or step at or past N;
 -- more than 1,024 cards held, or entries that no lines can have made
 numberOf Table = 3
@@ -27,6 +28,12 @@ numberOf TooLong = 7
 numberOf Entries = 8
 -- a call of the Ed25519 module was not answered
 numberOf Unanswered = 9
+-- a window that is not 0 or 1
+numberOf Window = 10
+-- a release lowered, or above T
+numberOf Lowered = 11
+-- a move that a window has not yet released
+numberOf NotReleased = 12
 -- a new card when 1,024 are held
 numberOf Full = 13
 -- card or amount out of the journal's range

@@ -12,12 +12,15 @@ pub enum Refusal {
     TooLong,
     Entries,
     Unanswered,
+    Window,
+    Lowered,
+    NotReleased,
     Full,
     CardOrAmount,
     CountFull,
 }
 
-// What reading a key, signing, hashing and the calls of a fair day answer.
+// What reading a key, signing, releasing, hashing and the calls of a fair day answer.
 pub enum Answer {
     Done,
     Refused(Refusal),
@@ -37,6 +40,9 @@ pub fn number(why: Refusal) -> u32
         Refusal::TooLong => 7,
         Refusal::Entries => 8,
         Refusal::Unanswered => 9,
+        Refusal::Window => 10,
+        Refusal::Lowered => 11,
+        Refusal::NotReleased => 12,
         Refusal::Full => 13,
         Refusal::CardOrAmount => 14,
         Refusal::CountFull => 15,

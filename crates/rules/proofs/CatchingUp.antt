@@ -11,12 +11,12 @@ use Rattle.fields.specs.Tests.{pick}
 use Rattle.fields.specs.Lists.{Among, here, there, beforeLast}
 use Rattle.fields.proofs.Lists.{either, with-silence, of-listed}
 use Rattle.refusal.specs.declared.Refusal.{Refusal}
-use Rattle.refusal.specs.declared.Refusal.the-variants.{Table, NotLater, PastEnd, Unanswered}
+use Rattle.refusal.specs.declared.Refusal.the-variants.{Table, NotLater, PastEnd, Unanswered, NotReleased}
 use Rattle.ed25519.specs.Tally.{Run, asked, passed, Exactly}
 use Rattle.ed25519.proofs.Passed.{nine, passes}
 use Rattle.rules.specs.Table.{steps, headerIn, bodyIn, wellFormed, headerOf}
 use Rattle.rules.specs.Answers.{Told, grownTold}
-use Rattle.rules.specs.Calls.{moveWork, MoveOutcome, notMoved, moved, moveUnder, moveOutcome, moveTallied, Moves, stayed, catchOutcome, catchTallied, CatchesUp}
+use Rattle.rules.specs.Calls.{moveWork, MoveOutcome, notMoved, moved, allows, moveUnder, moveOutcome, moveTallied, Moves, stayed, catchOutcome, catchTallied, CatchesUp}
 use Rattle.rules.specs.Listed.{catchListed, catchTalliedListed}
 use Rattle.rules.specs.CatchUp.{StaysAt0, MovesCount}
 use Rattle.rules.specs.declared.Found.{Found}
@@ -38,7 +38,7 @@ module _ (d : List ℕ) (b : ℕ) where
       go (found.Good x) = under (leb (steps (x .h1) (x .h2)) b) (leb b (x .step))
         where
           after : MoveOutcome
-          after = moved x b (moveWork x (bodyIn d) b)
+          after = pick (allows x b) (moved x b (moveWork x (bodyIn d) b)) (notMoved NotReleased d)
 
           under : (p q : Bool) → (pick p (notMoved PastEnd d) (pick q (stayed d) after) ≡ stayed d)
               ⊎ (pick p (notMoved PastEnd d) (pick q (stayed d) after) ≡ pick p (notMoved PastEnd d) (pick q (notMoved NotLater d) after))
@@ -67,14 +67,15 @@ module _ (d : List ℕ) (b : ℕ) where
       go : (f : Bool) → Among (moveUnder (stayed d) (pick f (found.Good (headerIn d)) (found.Refused Table)) d b) (catchListed d b)
       go true =
           let x = headerIn d in
-          either (leb (steps (x .h1) (x .h2)) b) (there (here refl)) (either (leb b (x .step)) (there (there (here refl))) (there (there (there (here refl)))))
+          either (leb (steps (x .h1) (x .h2)) b) (there (here refl))
+          (either (leb b (x .step)) (there (there (here refl))) (either (allows x b) (there (there (there (there (here refl))))) (there (there (there (here refl))))))
       go false = here refl
 
   pub catch-tallied-listed : (t : ℕ) → Among (catchTallied d b t) (catchTalliedListed d b)
   unfolding catchTallied
   catch-tallied-listed t = with-silence (notMoved Unanswered d) (catchListed d b) (asked (catchOutcome d b .calls) t .given) catch-listed
 
-  pub catch-numbers : map (λ (o : MoveOutcome). grownTold (o .answer) .number) (catchTalliedListed d b) ≡ 3 ∷ 6 ∷ 0 ∷ 9 ∷ 0 ∷ []
+  pub catch-numbers : map (λ (o : MoveOutcome). grownTold (o .answer) .number) (catchTalliedListed d b) ≡ 3 ∷ 6 ∷ 0 ∷ 12 ∷ 9 ∷ 0 ∷ []
   unfolding beforeLast
   catch-numbers = refl
 
@@ -82,7 +83,7 @@ module _ (d : List ℕ) (b : ℕ) where
   unfolding beforeLast
   catch-untouched t why =
       of-listed (λ (o : MoveOutcome). o .answer ≡ grown.Refused why → o .table ≡ d) (catchTalliedListed d b)
-      (λ e. refl, (λ e. refl, (λ e. refl, (λ e. refl, (λ e. absurd (grown-not e), tt))))) (catch-tallied-listed t)
+      (λ e. refl, (λ e. refl, (λ e. refl, (λ e. refl, (λ e. refl, (λ e. absurd (grown-not e), tt)))))) (catch-tallied-listed t)
 
   -- no second outcome fits
   pub catch-once : {t t₁ t₂ : ℕ} {a₁ a₂ : Grown} {d₁ d₂ : List ℕ} → CatchesUp d b t a₁ d₁ t₁ → CatchesUp d b t a₂ d₂ t₂ → (a₁ ≡ a₂) × (d₁ ≡ d₂) × (t₁ ≡ t₂)

@@ -7,7 +7,7 @@ use Prim.Native.Nat.{ℕ}
 use native.Mathlib.Omega.{arith}
 use lib.ListN.{getD, replicate}
 use Rattle.fields.specs.Numbers.{fourIn}
-use Rattle.refusal.specs.declared.Refusal.the-variants.{Height, SeedOrKey, Table, Length, PastEnd, TooLong}
+use Rattle.refusal.specs.declared.Refusal.the-variants.{Height, SeedOrKey, Table, Length, NotLater, PastEnd, TooLong, Window, NotReleased}
 use Rattle.ed25519.specs.Tally.{Run, asked}
 use Rattle.tree.specs.Tree.{zeros}
 use Rattle.tree.specs.Move.{entered, movedTree, countMove, countNewAt, callsMove}
@@ -26,6 +26,9 @@ use Rattle.rules.specs.Calls.{
   moveOutcome,
   moveTallied,
   CatchesUp,
+  Releases,
+  releaseUnder,
+  releaseOutcome,
   catchOutcome,
   catchTallied,
   Signs,
@@ -45,7 +48,7 @@ use Rattle.rules.specs.declared.Verdict.the-variants as verdict
 
 -- a table of heights 1 and 0 at step t, every byte of its body x
 unfoldable pub plain : ℕ → ℕ → List ℕ
-plain t x = headerBytes (header 1 0 t) ++ replicate 384 x
+plain t x = headerBytes (header 1 0 t 2 2) ++ replicate 384 x
 
 -- A move of it from step 0 to step 1 is done, with A14's count.
 pub not-refusing : (a : Grown) (d : List ℕ) (t t′ : ℕ) → asked 3 t .given ≡ true → Moves (plain 0 7) 1 t a d t′ → a ≡ grown.Done 2
@@ -60,19 +63,19 @@ not-idle a t t′ y m = let e : _≡_ {A = ℕ} 0 1 = ap (λ (d : List ℕ). get
 -- and it makes the parting level's seed zero, so more than the step is written.
 pub not-only-step : (a : Grown) (t t′ : ℕ) → asked 3 t .given ≡ true → Moves (plain 0 7) 1 t a (plain 1 7) t′ → ⊥
 unfolding plain headerBytes moveTallied callsPart callsNewPart callsMove moveOutcome moveUnder headerOf wellFormed headerIn fourIn moveWork movedPart seam movedTree entered zeros
-not-only-step a t t′ y m = let e : _≡_ {A = ℕ} 7 0 = ap (λ (d : List ℕ). getD d 8 0) (rw y at (m .leaves)) in omega arith
+not-only-step a t t′ y m = let e : _≡_ {A = ℕ} 7 0 = ap (λ (d : List ℕ). getD d 16 0) (rw y at (m .leaves)) in omega arith
 
 -- The same above step 0, of a table of heights 1 and 1, where the parent's step changes and where it stays: a move grows on every call, not on its first alone.
 unfoldable pub taller : ℕ → ℕ → List ℕ
-taller t x = headerBytes (header 1 1 t) ++ replicate 480 x
+taller t x = headerBytes (header 1 1 t 4 4) ++ replicate 480 x
 
 pub not-only-step-across : (a : Grown) (t t′ : ℕ) → asked 4 t .given ≡ true → Moves (taller 1 7) 2 t a (taller 2 7) t′ → ⊥
 unfolding taller headerBytes moveTallied callsPart callsNewPart callsMove moveOutcome moveUnder headerOf wellFormed headerIn fourIn moveWork movedPart seam movedTree entered zeros
-not-only-step-across a t t′ y m = let e : _≡_ {A = ℕ} 7 0 = ap (λ (d : List ℕ). getD d 8 0) (rw y at (m .leaves)) in omega arith
+not-only-step-across a t t′ y m = let e : _≡_ {A = ℕ} 7 0 = ap (λ (d : List ℕ). getD d 16 0) (rw y at (m .leaves)) in omega arith
 
 pub not-only-step-within : (a : Grown) (t t′ : ℕ) → asked 1 t .given ≡ true → Moves (taller 2 7) 3 t a (taller 3 7) t′ → ⊥
 unfolding taller headerBytes moveTallied callsPart callsNewPart callsMove moveOutcome moveUnder headerOf wellFormed headerIn fourIn moveWork movedPart seam movedTree entered zeros
-not-only-step-within a t t′ y m = let e : _≡_ {A = ℕ} 7 0 = ap (λ (d : List ℕ). getD d 328 0) (rw y at (m .leaves)) in omega arith
+not-only-step-within a t t′ y m = let e : _≡_ {A = ℕ} 7 0 = ap (λ (d : List ℕ). getD d 336 0) (rw y at (m .leaves)) in omega arith
 
 -- Two tables with other stored signatures sign one message otherwise: no signature is fixed.
 pub not-fixed : (x : List ℕ) (t : ℕ) → asked 1 t .given ≡ true → {a b : Answer} {d₁ d₂ m₁ m₂ : List ℕ} {t₁ t₂ : ℕ} → Signs (plain 0 7) [] (replicate 256 0) t a d₁ m₁ x t₁
@@ -113,6 +116,37 @@ catch-stays a d t t′ c = (c .answers, c .leaves, c .tallies)
 pub catch-not-idle : (a : Grown) (t t′ : ℕ) → asked 3 t .given ≡ true → CatchesUp (plain 0 7) 1 t a (plain 0 7) t′ → ⊥
 unfolding plain headerBytes catchTallied callsPart callsNewPart callsMove catchOutcome moveUnder headerOf wellFormed headerIn fourIn moveWork
 catch-not-idle a t t′ y c = let e : _≡_ {A = ℕ} 0 1 = ap (λ (d : List ℕ). getD d 4 0) (rw y at (c .leaves)) in omega arith
+
+-- move: 6 before 12, 5 before 12; one window is not enough, whichever it is
+unfoldable pub waiting : ℕ → ℕ → List ℕ
+waiting m n = headerBytes (header 1 0 0 m n) ++ replicate 384 7
+
+module _ {a : Grown} {d : List ℕ} {t t′ : ℕ} where
+  pub move-6-12 : Moves (waiting 0 0) 2 t a d t′ → a ≡ grown.Refused PastEnd
+  unfolding waiting headerBytes asked moveTallied moveOutcome moveUnder headerOf wellFormed headerIn fourIn
+  move-6-12 m = m .answers
+
+  pub move-5-12 : Moves (waiting 0 0) 0 t a d t′ → a ≡ grown.Refused NotLater
+  unfolding waiting headerBytes asked moveTallied moveOutcome moveUnder headerOf wellFormed headerIn fourIn
+  move-5-12 m = m .answers
+
+  pub first-alone : Moves (waiting 2 0) 1 t a d t′ → a ≡ grown.Refused NotReleased
+  unfolding waiting headerBytes asked moveTallied moveOutcome moveUnder headerOf wellFormed headerIn fourIn
+  first-alone m = m .answers
+
+  pub second-alone : Moves (waiting 0 2) 1 t a d t′ → a ≡ grown.Refused NotReleased
+  unfolding waiting headerBytes asked moveTallied moveOutcome moveUnder headerOf wellFormed headerIn fourIn
+  second-alone m = m .answers
+
+-- release: 3 before 10, 10 before 11
+module _ {a : Answer} {d : List ℕ} where
+  pub release-3-10 : Releases [] 2 0 a d → a ≡ answer.Refused Table
+  unfolding releaseOutcome releaseUnder headerOf wellFormed
+  release-3-10 r = r .answers
+
+  pub release-10-11 : Releases (waiting 1 1) 2 0 a d → a ≡ answer.Refused Window
+  unfolding waiting headerBytes releaseOutcome releaseUnder headerOf wellFormed headerIn fourIn
+  release-10-11 r = r .answers
 
 -- sign: 3 before 7, 7 before 4
 module _ {a : Answer} {d m out : List ℕ} {t t′ : ℕ} where

@@ -16,6 +16,7 @@ pub mod Parts
 pub mod Again
 pub mod Bridge
 pub mod EitherOrder
+pub mod Windows
 pub mod Straight
 pub mod Holding
 pub mod Growing

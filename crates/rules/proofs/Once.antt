@@ -1,8 +1,8 @@
--- For each call of document 01: no second outcome fits its contract, and the tally at entry fixes the one at exit; the outcome is one of those that
+-- For each call of document 01, and request 8's release: no second outcome fits its contract, and the tally at entry fixes the one at exit; the outcome is one of those that
 -- document 01 and request 4 list for the call; and their numbers.
 use mathlib.Core.Path.{_≡_, refl, sym, _∙_}
 use mathlib.Core.List.{List, [], _∷_, map}
-use mathlib.Core.Bool.{Bool, true, false}
+use mathlib.Core.Bool.{Bool, true, false, _||_}
 use Prim.Native.Nat.{ℕ}
 use lib.Dec.{ltb, leb, eqb}
 use lib.ListN.{length}
@@ -18,11 +18,12 @@ use Rattle.refusal.specs.Numbers.{answerNumber}
 use Rattle.rules.specs.Answers.{grownTold, verdictNumber}
 use Rattle.rules.specs.Calls.{tooHigh, Makes, MakeOutcome, notMade, makeOutcome, makeTallied}
 use Rattle.rules.specs.Calls.{Reads, KeyOutcome, keyUnder, keyOutcome}
-use Rattle.rules.specs.Calls.{Moves, MoveOutcome, notMoved, moveUnder, moveOutcome, moveTallied}
+use Rattle.rules.specs.Calls.{Moves, MoveOutcome, notMoved, allows, moveUnder, moveOutcome, moveTallied}
+use Rattle.rules.specs.Calls.{Releases, ReleaseOutcome, stoodFor, releaseUnder, releaseOutcome}
 use Rattle.rules.specs.Calls.{Signs, SignOutcome, notSigned, signUnder, signOutcome, signTallied}
 use Rattle.rules.specs.Calls.{Verifies, verdictOf, verifyOutcome}
 use Rattle.rules.specs.Listed.{makeListed, makeTalliedListed, keyListed, moveListed, moveTalliedListed}
-use Rattle.rules.specs.Listed.{signListed, signTalliedListed, verifyListed}
+use Rattle.rules.specs.Listed.{releaseListed, signListed, signTalliedListed, verifyListed}
 use Rattle.rules.specs.declared.Found.the-variants.{Good, Refused}
 use Rattle.rules.specs.declared.Grown.{Grown}
 use Rattle.refusal.specs.declared.Answer.{Answer}
@@ -37,6 +38,9 @@ key-once d out x y = (x .answers ∙ sym (y .answers), x .keeps ∙ sym (y .keep
 
 pub move-once : (d : List ℕ) (b t : ℕ) {a₁ a₂ : Grown} {d₁ d₂ : List ℕ} {t₁ t₂ : ℕ} → Moves d b t a₁ d₁ t₁ → Moves d b t a₂ d₂ t₂ → (a₁ ≡ a₂) × (d₁ ≡ d₂) × (t₁ ≡ t₂)
 move-once d b t x y = (x .answers ∙ sym (y .answers), x .leaves ∙ sym (y .leaves), x .tallies ∙ sym (y .tallies))
+
+pub release-once : (d : List ℕ) (w n : ℕ) {a b : Answer} {d₁ d₂ : List ℕ} → Releases d w n a d₁ → Releases d w n b d₂ → (a ≡ b) × (d₁ ≡ d₂)
+release-once d w n x y = (x .answers ∙ sym (y .answers), x .leaves ∙ sym (y .leaves))
 
 pub sign-once : (d m out : List ℕ) (t : ℕ) {a b : Answer} {d₁ d₂ m₁ m₂ o₁ o₂ : List ℕ} {t₁ t₂ : ℕ} → Signs d m out t a d₁ m₁ o₁ t₁ → Signs d m out t b d₂ m₂ o₂ t₂
     → (a ≡ b) × (d₁ ≡ d₂) × (m₁ ≡ m₂) × (o₁ ≡ o₂) × (t₁ ≡ t₂)
@@ -83,13 +87,25 @@ move-listed d b = go (wellFormed d)
     go : (f : Bool) → Among (moveUnder (notMoved NotLater d) (pick f (Good (headerIn d)) (Refused Table)) d b) (moveListed d b)
     go true =
         let x = headerIn d in
-        either (leb (steps (x .h1) (x .h2)) b) (there (here refl)) (either (leb b (x .step)) (there (there (here refl))) (there (there (there (here refl)))))
+        either (leb (steps (x .h1) (x .h2)) b) (there (here refl))
+        (either (leb b (x .step)) (there (there (here refl))) (either (allows x b) (there (there (there (there (here refl))))) (there (there (there (here refl))))))
     go false = here refl
 
 pub move-tallied-listed : (d : List ℕ) (b t : ℕ) → Among (moveTallied d b t) (moveTalliedListed d b)
 unfolding moveTallied
 move-tallied-listed d b t =
     with-silence (notMoved Unanswered d) (moveListed d b) (asked (moveOutcome d b .calls) t .given) (move-listed d b)
+
+pub release-listed : (d : List ℕ) (w n : ℕ) → Among (releaseOutcome d w n) (releaseListed d w n)
+unfolding releaseOutcome releaseUnder headerOf
+release-listed d w n = go (wellFormed d)
+  where
+    go : (f : Bool) → Among (releaseUnder (pick f (Good (headerIn d)) (Refused Table)) d w n) (releaseListed d w n)
+    go true =
+        let x = headerIn d in
+        either (ltb 1 w) (there (here refl))
+        (either (ltb n (stoodFor x w) || ltb (steps (x .h1) (x .h2)) n) (there (there (here refl))) (there (there (there (here refl)))))
+    go false = here refl
 
 pub sign-listed : (d m out : List ℕ) → Among (signOutcome d m out) (signListed d m out)
 unfolding signOutcome signUnder headerOf
@@ -124,9 +140,12 @@ make-numbers h1 h2 s d = refl
 pub key-numbers : (d out : List ℕ) → map (λ (o : KeyOutcome). answerNumber (o .answer)) (keyListed d out) ≡ 3 ∷ 4 ∷ 0 ∷ []
 key-numbers d out = refl
 
-pub move-numbers : (d : List ℕ) (b : ℕ) → map (λ (o : MoveOutcome). grownTold (o .answer) .number) (moveTalliedListed d b) ≡ 3 ∷ 6 ∷ 5 ∷ 9 ∷ 0 ∷ []
+pub move-numbers : (d : List ℕ) (b : ℕ) → map (λ (o : MoveOutcome). grownTold (o .answer) .number) (moveTalliedListed d b) ≡ 3 ∷ 6 ∷ 5 ∷ 12 ∷ 9 ∷ 0 ∷ []
 unfolding beforeLast
 move-numbers d b = refl
+
+pub release-numbers : (d : List ℕ) (w n : ℕ) → map (λ (o : ReleaseOutcome). answerNumber (o .answer)) (releaseListed d w n) ≡ 3 ∷ 10 ∷ 11 ∷ 0 ∷ []
+release-numbers d w n = refl
 
 pub sign-numbers : (d m out : List ℕ) → map (λ (o : SignOutcome). answerNumber (o .answer)) (signTalliedListed d m out) ≡ 3 ∷ 7 ∷ 4 ∷ 9 ∷ 0 ∷ []
 unfolding beforeLast

@@ -12,12 +12,12 @@ use lib.Pow.{pow-pos}
 use borrow.Author.Tests.{lt-ltb, le-ltb, leb-false, eqb-true}
 use Rattle.fields.specs.Tests.{pick}
 use Rattle.refusal.specs.declared.Refusal.{Refusal}
-use Rattle.refusal.specs.declared.Refusal.the-variants.{Height, SeedOrKey, Length, NotLater, PastEnd}
+use Rattle.refusal.specs.declared.Refusal.the-variants.{Height, SeedOrKey, Length, NotLater, PastEnd, NotReleased}
 use Rattle.tree.specs.Move.{countMove, countNewAt}
 use Rattle.fields.proofs.Cases.{side}
 use Rattle.rules.specs.Part.{total, outer, inner, countNewPart, countPart}
 use Rattle.rules.specs.Table.{steps, tableSize, bodyIn, headerOf}
-use Rattle.rules.specs.Calls.{tooHigh, makeWork, made, notMade, makeOutcome, moveWork, moved, notMoved, moveUnder, moveOutcome}
+use Rattle.rules.specs.Calls.{tooHigh, makeWork, made, notMade, makeOutcome, moveWork, moved, notMoved, allows, moveUnder, moveOutcome}
 use Rattle.rules.specs.declared.Found.{Found}
 use Rattle.rules.specs.declared.Found.the-variants as found
 use Rattle.rules.specs.declared.Grown.the-variants.{Done, Refused}
@@ -75,13 +75,14 @@ move-positive d b {n} = go (headerOf d)
   where
     go : (f : Found) → moveUnder (notMoved NotLater d) f d b .answer ≡ Done n → 0 < n
     go (found.Refused why) t = absurd (grown-not (sym t))
-    go (found.Good x) t = under (leb (steps (x .h1) (x .h2)) b) (leb b (x .step)) refl refl t
+    go (found.Good x) t = under (leb (steps (x .h1) (x .h2)) b) (leb b (x .step)) (allows x b) refl refl t
       where
-        under : (p q : Bool) → leb (steps (x .h1) (x .h2)) b ≡ p → leb b (x .step) ≡ q
-            → (pick p (notMoved PastEnd d) (pick q (notMoved NotLater d) (moved x b (moveWork x (bodyIn d) b)))) .answer ≡ Done n → 0 < n
-        under true q e f t = absurd (grown-not (sym t))
-        under false true e f t = absurd (grown-not (sym t))
-        under false false e f t =
+        under : (p q r : Bool) → leb (steps (x .h1) (x .h2)) b ≡ p → leb b (x .step) ≡ q
+            → (pick p (notMoved PastEnd d) (pick q (notMoved NotLater d) (pick r (moved x b (moveWork x (bodyIn d) b)) (notMoved NotReleased d)))) .answer ≡ Done n → 0 < n
+        under true q r e f t = absurd (grown-not (sym t))
+        under false true r e f t = absurd (grown-not (sym t))
+        under false false false e f t = absurd (grown-not (sym t))
+        under false false true e f t =
             let k : countPart (x .h1) (x .h2 ∷ []) (x .step) b ≡ n = cc in
             let p = part-pos (x .h2 ∷ []) (x .h1) (x .step) b (leb-false b (x .step) f) (leb-false (steps (x .h1) (x .h2)) b e) in
             omega arith

@@ -9,12 +9,12 @@ use lib.ListN.{length}
 use lib.Pow.{pow-mono}
 use Rattle.refusal.specs.declared.Refusal.{Refusal}
 use Rattle.fields.specs.Tests.{pick}
-use Rattle.refusal.specs.declared.Refusal.the-variants.{Height, SeedOrKey, Length, NotLater, PastEnd}
+use Rattle.refusal.specs.declared.Refusal.the-variants.{Height, SeedOrKey, Length, NotLater, PastEnd, NotReleased}
 use Rattle.tree.specs.Move.{countNewAt}
 use Rattle.tree.proofs.Laws.{count-new-bound}
 use Rattle.rules.specs.Part.{outer, inner, countNewPart, countPart}
 use Rattle.rules.specs.Table.{steps, tableSize, bodyIn, headerOf}
-use Rattle.rules.specs.Calls.{tooHigh, makeWork, made, notMade, makeOutcome, moveWork, moved, notMoved, moveUnder, moveOutcome}
+use Rattle.rules.specs.Calls.{tooHigh, makeWork, made, notMade, makeOutcome, moveWork, moved, notMoved, allows, moveUnder, moveOutcome}
 use Rattle.rules.specs.declared.Found.{Found}
 use Rattle.rules.specs.declared.Found.the-variants as found
 use Rattle.rules.specs.declared.Grown.the-variants.{Done, Refused}
@@ -47,12 +47,13 @@ move-small d b {n} = go (headerOf d) refl
   where
     go : (f : Found) → headerOf d ≡ f → moveUnder (notMoved NotLater d) f d b .answer ≡ Done n → n < 0x1_0000_0000
     go (found.Refused why) e t = absurd (grown-not (sym t))
-    go (found.Good x) e t = under (leb (steps (x .h1) (x .h2)) b) (leb b (x .step)) t
+    go (found.Good x) e t = under (leb (steps (x .h1) (x .h2)) b) (leb b (x .step)) (allows x b) t
       where
-        under : (p q : Bool) → (pick p (notMoved PastEnd d) (pick q (notMoved NotLater d) (moved x b (moveWork x (bodyIn d) b)))) .answer ≡ Done n → n < 0x1_0000_0000
-        under true q t = absurd (grown-not (sym t))
-        under false true t = absurd (grown-not (sym t))
-        under false false t =
+        under : (p q r : Bool) → (pick p (notMoved PastEnd d) (pick q (notMoved NotLater d) (pick r (moved x b (moveWork x (bodyIn d) b)) (notMoved NotReleased d)))) .answer ≡ Done n → n < 0x1_0000_0000
+        under true q r t = absurd (grown-not (sym t))
+        under false true r t = absurd (grown-not (sym t))
+        under false false false t = absurd (grown-not (sym t))
+        under false false true t =
             let k : countPart (x .h1) (x .h2 ∷ []) (x .step) b ≡ n = cc in
             let w = whole d e in
             let a = count-across (x .h1) (x .h2) (x .step) b in

@@ -126,7 +126,7 @@ module _ (d : List ℕ) (b : ℕ) where
   move-not-9 : moveOutcome d b .answer ≡ grown.Refused Unanswered → ⊥
   move-not-9 e =
       of-listed (λ (o : MoveOutcome). grownTold (o .answer) .number ≡ 9 → ⊥) (moveListed d b)
-      (λ z. omega arith, (λ z. omega arith, (λ z. omega arith, (λ z. omega arith, tt)))) (move-listed d b)
+      (λ z. omega arith, (λ z. omega arith, (λ z. omega arith, (λ z. omega arith, (λ z. omega arith, tt))))) (move-listed d b)
       (ap (λ (a : Grown). grownTold a .number) e)
 
   move-calls : (moveOutcome d b .calls ≡ 0) ⊎ ((moveOutcome d b .answer ≡ grown.Done (moveCount d b)) × (moveOutcome d b .calls ≤ moveCount d b + moveRoots d b))
@@ -134,7 +134,7 @@ module _ (d : List ℕ) (b : ℕ) where
   move-calls =
       let x = headerIn d in
       of-listed (λ (o : MoveOutcome). (o .calls ≡ 0) ⊎ ((o .answer ≡ grown.Done (moveCount d b)) × (o .calls ≤ moveCount d b + moveRoots d b))) (moveListed d b)
-      (inl refl, (inl refl, (inl refl, (inr (refl, part-calls (x .h2 ∷ []) (x .h1) (x .step) b), tt)))) (move-listed d b)
+      (inl refl, (inl refl, (inl refl, (inl refl, (inr (refl, part-calls (x .h2 ∷ []) (x .h1) (x .step) b), tt))))) (move-listed d b)
 
   move-few : (moveOutcome d b .calls < 2 ^ 64) × (moveOutcome d b .calls ≤ moveCount d b + moveRoots d b)
   move-few = elim move-calls [
@@ -147,7 +147,7 @@ module _ (d : List ℕ) (b : ℕ) where
   move-refused : (why : Refusal) → moveOutcome d b .answer ≡ grown.Refused why → moveOutcome d b .calls ≡ 0
   move-refused why =
       of-listed (λ (o : MoveOutcome). o .answer ≡ grown.Refused why → o .calls ≡ 0) (moveListed d b)
-      (λ e. refl, (λ e. refl, (λ e. refl, (λ e. absurd (grown-not e), tt)))) (move-listed d b)
+      (λ e. refl, (λ e. refl, (λ e. refl, (λ e. refl, (λ e. absurd (grown-not e), tt))))) (move-listed d b)
 
   module _ {t t′ : ℕ} {a : Grown} {d′ : List ℕ} (m : Moves d b t a d′ t′) where
     move-chosen : a ≡ pick (asked (moveOutcome d b .calls) t .given) (moveOutcome d b .answer) (grown.Refused Unanswered)

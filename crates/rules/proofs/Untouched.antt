@@ -7,11 +7,11 @@ use native.Mathlib.Omega.{arith}
 use Rattle.refusal.specs.declared.Refusal.{Refusal}
 use Rattle.fields.specs.Lists.{beforeLast}
 use Rattle.fields.proofs.Lists.{of-listed}
-use Rattle.rules.specs.Calls.{MakeOutcome, makeTallied, KeyOutcome, keyOutcome, MoveOutcome, moveTallied, SignOutcome, signTallied, VerifyOutcome, verifyOutcome}
-use Rattle.rules.specs.Listed.{makeTalliedListed, keyListed, moveTalliedListed, signTalliedListed}
+use Rattle.rules.specs.Calls.{MakeOutcome, makeTallied, KeyOutcome, keyOutcome, MoveOutcome, moveTallied, ReleaseOutcome, releaseOutcome, SignOutcome, signTallied, VerifyOutcome, verifyOutcome}
+use Rattle.rules.specs.Listed.{makeTalliedListed, keyListed, moveTalliedListed, releaseListed, signTalliedListed}
 use Rattle.rules.specs.declared.Grown.the-variants as grown
 use Rattle.refusal.specs.declared.Answer.the-variants as answer
-use Rattle.rules.proofs.Once.{make-tallied-listed, key-listed, move-tallied-listed, sign-tallied-listed}
+use Rattle.rules.proofs.Once.{make-tallied-listed, key-listed, move-tallied-listed, release-listed, sign-tallied-listed}
 
 pub grown-not : {n : ℕ} {why : Refusal} → grown.Done n ≡ grown.Refused why → ⊥
 grown-not e = let z : _≡_ {A = ℕ} 0 1 = cc in omega arith
@@ -37,7 +37,12 @@ pub move-untouched : (d : List ℕ) (b t : ℕ) (why : Refusal) → moveTallied 
 unfolding beforeLast
 move-untouched d b t why =
     of-listed (λ (o : MoveOutcome). o .answer ≡ grown.Refused why → o .table ≡ d) (moveTalliedListed d b)
-    (λ e. refl, (λ e. refl, (λ e. refl, (λ e. refl, (λ e. absurd (grown-not e), tt))))) (move-tallied-listed d b t)
+    (λ e. refl, (λ e. refl, (λ e. refl, (λ e. refl, (λ e. refl, (λ e. absurd (grown-not e), tt)))))) (move-tallied-listed d b t)
+
+pub release-untouched : (d : List ℕ) (w n : ℕ) (why : Refusal) → releaseOutcome d w n .answer ≡ answer.Refused why → releaseOutcome d w n .table ≡ d
+release-untouched d w n why =
+    of-listed (λ (o : ReleaseOutcome). o .answer ≡ answer.Refused why → o .table ≡ d) (releaseListed d w n)
+    (λ e. refl, (λ e. refl, (λ e. refl, (λ e. absurd (answer-not e), tt)))) (release-listed d w n)
 
 pub sign-untouched : (d m out : List ℕ) (t : ℕ) (why : Refusal) → signTallied d m out t .answer ≡ answer.Refused why
     → (signTallied d m out t .table ≡ d) × (signTallied d m out t .message ≡ m) × (signTallied d m out t .out ≡ out)

@@ -1,20 +1,22 @@
--- The six calls, document 01's five and request 1's catch-up, each by one definition from its inputs to its whole outcome: the answer and the end value of
+-- The seven calls, document 01's five, request 1's catch-up and request 8's release, each by one definition from its inputs to its whole outcome: the answer and the end value of
 -- every slice lent, on all inputs. The order of refusals is that of document 01, "Numbers a caller can get". Each contract says that answer and end values are
 -- the outcome's. Request 4: of make, move, catch-up and sign the same under a tally, with 9 after all checks.
 use mathlib.Core.Path.{_≡_}
 use mathlib.Core.List.{List, [], _∷_, _++_}
-use mathlib.Core.Bool.{Bool, _||_}
+use mathlib.Core.Bool.{Bool, _&&_, _||_}
 use Prim.Native.Nat.{ℕ}
 use lib.Dec.{ltb, leb, eqb}
 use lib.ListN.{length}
+use Rattle.fields.specs.Fields.{put}
+use Rattle.fields.specs.Numbers.{fourBytes}
 use Rattle.fields.specs.Tests.{pick}
 use Rattle.blake2b.specs.Calls.{limit}
 use Rattle.refusal.specs.declared.Refusal.{Refusal}
-use Rattle.refusal.specs.declared.Refusal.the-variants.{Height, SeedOrKey, Length, NotLater, PastEnd, TooLong, Unanswered}
+use Rattle.refusal.specs.declared.Refusal.the-variants.{Height, SeedOrKey, Length, NotLater, PastEnd, TooLong, Unanswered, Window, Lowered, NotReleased}
 use Rattle.ed25519.specs.Tally.{Run, asked}
 use Rattle.tree.specs.Tree.{zeros, rootIn}
 use Rattle.rules.specs.Part.{partAt, movedPart, countNewPart, countPart, callsNewPart, callsPart, partSignature, partVerdict}
-use Rattle.rules.specs.Table.{maxHeight, steps, tableSize, signatureSize, header, atStep, headerBytes, bodyIn, headerOf}
+use Rattle.rules.specs.Table.{maxHeight, steps, tableSize, signatureSize, header, atStep, headerBytes, windowAt, bodyIn, headerOf}
 use Rattle.rules.specs.declared.Header.{Header}
 use Rattle.rules.specs.declared.Found.{Found}
 use Rattle.rules.specs.declared.Found.the-variants as found
@@ -51,7 +53,7 @@ abbrev pub notMade : Refusal → List ℕ → List ℕ → MakeOutcome
 notMade why s d = record { calls = 0; answer = grown.Refused why; seed = s; table = d }
 
 abbrev pub made : ℕ → ℕ → Work → MakeOutcome
-made h1 h2 w = record { calls = w .calls; answer = grown.Done (w .count); seed = zeros; table = headerBytes (header h1 h2 0) ++ w .body }
+made h1 h2 w = record { calls = w .calls; answer = grown.Done (w .count); seed = zeros; table = headerBytes (header h1 h2 0 0 0) ++ w .body }
 
 unfoldable pub makeOutcome : ℕ → ℕ → List ℕ → List ℕ → MakeOutcome
 makeOutcome h1 h2 s d =
@@ -107,18 +109,23 @@ notMoved why d = record { calls = 0; answer = grown.Refused why; table = d }
 abbrev pub moved : Header → ℕ → Work → MoveOutcome
 moved x b w = record { calls = w .calls; answer = grown.Done (w .count); table = headerBytes (atStep x b) ++ w .body }
 
--- both, up to `early`, which is what a step gets that is not later
+-- request 8: both windows' numbers are at b or above
+abbrev pub allows : Header → ℕ → Bool
+allows x b = leb b (x .first) && leb b (x .second)
+
+-- both, up to `early`, which is what a step gets that is not later; then 12
 unfoldable pub moveUnder : MoveOutcome → Found → List ℕ → ℕ → MoveOutcome
 moveUnder early (found.Refused why) d b = notMoved why d
 moveUnder early (found.Good x) d b =
     pick (leb (steps (x .h1) (x .h2)) b) (notMoved PastEnd d)
-    (pick (leb b (x .step)) early (moved x b (moveWork x (bodyIn d) b)))
+    (pick (leb b (x .step)) early
+    (pick (allows x b) (moved x b (moveWork x (bodyIn d) b)) (notMoved NotReleased d)))
 
 -- and both under a tally
 abbrev pub whereAnswered : MoveOutcome → List ℕ → ℕ → MoveOutcome
 whereAnswered o d t = pick (asked (o .calls) t .given) o (notMoved Unanswered d)
 
--- move: 3, 6, 5, 9
+-- move: 3, 6, 5, 12, 9
 unfoldable pub moveOutcome : List ℕ → ℕ → MoveOutcome
 moveOutcome d b = moveUnder (notMoved NotLater d) (headerOf d) d b
 
@@ -130,7 +137,7 @@ pub record Moves (d : List ℕ) (b t : ℕ) (a : Grown) (d′ : List ℕ) (t′ 
   pub leaves : d′ ≡ moveTallied d b t .table
   pub tallies : t′ ≡ asked (moveOutcome d b .calls) t .tally
 
--- catch up: 3, 6, 9. Where the step is not later it is done with count 0, and the table stays.
+-- catch up: 3, 6, 12, 9. Where the step is not later it is done with count 0, and the table stays.
 abbrev pub stayed : List ℕ → MoveOutcome
 stayed d = record { calls = 0; answer = grown.Done 0; table = d }
 
@@ -144,6 +151,34 @@ pub record CatchesUp (d : List ℕ) (b t : ℕ) (a : Grown) (d′ : List ℕ) (t
   pub answers : a ≡ catchTallied d b t .answer
   pub leaves : d′ ≡ catchTallied d b t .table
   pub tallies : t′ ≡ asked (catchOutcome d b .calls) t .tally
+
+-- release: 3, 10, 11. It sets the number of window w and changes nothing else.
+pub record ReleaseOutcome : Type 0 where
+  pub answer : Answer
+  pub table : List ℕ
+
+abbrev pub refusedRelease : Refusal → List ℕ → ReleaseOutcome
+refusedRelease why d = record { answer = answer.Refused why; table = d }
+
+abbrev pub released : List ℕ → ℕ → ℕ → ReleaseOutcome
+released d w n = record { answer = answer.Done; table = put d (windowAt w) 4 (fourBytes n) }
+
+-- the number that stands for window w
+abbrev pub stoodFor : Header → ℕ → ℕ
+stoodFor x w = pick (eqb w 0) (x .first) (x .second)
+
+unfoldable pub releaseUnder : Found → List ℕ → ℕ → ℕ → ReleaseOutcome
+releaseUnder (found.Refused why) d w n = refusedRelease why d
+releaseUnder (found.Good x) d w n =
+    pick (ltb 1 w) (refusedRelease Window d)
+    (pick (ltb n (stoodFor x w) || ltb (steps (x .h1) (x .h2)) n) (refusedRelease Lowered d) (released d w n))
+
+unfoldable pub releaseOutcome : List ℕ → ℕ → ℕ → ReleaseOutcome
+releaseOutcome d w n = releaseUnder (headerOf d) d w n
+
+pub record Releases (d : List ℕ) (w n : ℕ) (a : Answer) (d′ : List ℕ) : Type 0 where
+  pub answers : a ≡ releaseOutcome d w n .answer
+  pub leaves : d′ ≡ releaseOutcome d w n .table
 
 -- sign: 3, 7, 4, 9
 pub record SignOutcome : Type 0 where

@@ -48,7 +48,7 @@ static int zero(const uint8_t *bytes, size_t len)
 }
 
 /* A fresh key of heights 1 and 2 in table, from a seed of sevens. */
-static uint64_t make(void)
+static uint64_t make_unreleased(void)
 {
     clear(&seed);
     clear(&table);
@@ -56,9 +56,17 @@ static uint64_t make(void)
     return kes_make(H1, H2, in(&seed), KES_SEED_SIZE, in(&table), kes_table_size(H1, H2), &tally);
 }
 
+/* The same, for a desk without windows: both have released all. */
+static uint64_t make(void)
+{
+    uint64_t made = make_unreleased();
+    expect(kes_release(in(&table), kes_table_size(H1, H2), 0, STEPS) == KES_DONE && kes_release(in(&table), kes_table_size(H1, H2), 1, STEPS) == KES_DONE, "both windows release all");
+    return made;
+}
+
 static void sizes(void)
 {
-    expect(kes_table_size(0, 0) == 264 && kes_table_size(2, 2) == 712 && kes_table_size(12, 12) == KES_TABLE_MAX, "the table's sizes");
+    expect(kes_table_size(0, 0) == 272 && kes_table_size(2, 2) == 720 && kes_table_size(12, 12) == KES_TABLE_MAX, "the table's sizes");
     expect(kes_signature_size(0, 0) == 224 && kes_signature_size(2, 2) == 352 && kes_signature_size(12, 12) == KES_SIGNATURE_MAX, "the signature's sizes");
     expect(kes_steps(2, 2) == 16 && kes_steps(12, 12) == 16777216, "the steps");
     expect(kes_table_size(13, 0) == 0 && kes_signature_size(0, 13) == 0 && kes_steps(UINT64_MAX, 0) == 0, "0 above height 12");
@@ -72,7 +80,7 @@ static void sizes(void)
 /* The macros take a number of any type: none below 0 wraps into a good one, and an int draws no warning. */
 static void signed_sizes(int height, long entries)
 {
-    expect(KES_TABLE_SIZE(height, height) == 712 && KES_SIGNATURE_SIZE(height, 2L) == 352, "sizes of heights that are int or long");
+    expect(KES_TABLE_SIZE(height, height) == 720 && KES_SIGNATURE_SIZE(height, 2L) == 352, "sizes of heights that are int or long");
     expect(KES_FAIR_CACHE_SIZE(entries) == 388 && KES_FAIR_SEEDS_SIZE((int)entries) == 96, "sizes of a fair whose entries are long or int");
     expect(KES_PLAIN_TABLE_SIZE(height) == 480 && KES_PLAIN_TABLE_SIZE(height - 3) == 0 && KES_PLAIN_TABLE_SIZE(-1L) == 0, "sizes of a plain tree whose height is int or long");
     expect(KES_TABLE_SIZE(-1L, 0) == 0 && KES_TABLE_SIZE(0, height - 3) == 0 && KES_TABLE_SIZE(entries - 4, 0) == 0, "no table below height 0");
@@ -111,7 +119,7 @@ static void reading(void)
     expect(kes_read_key(in(&table), kes_table_size(H1, H2), in(&key), KES_KEY_SIZE) == KES_DONE, "the key is read");
     expect(guarded(&key, KES_KEY_SIZE), "reading writes nothing else");
     other = key;
-    expect(kes_read_key(in(&table), 7, in(&key), KES_KEY_SIZE) == KES_TABLE, "a table of 7 bytes is refused with 3");
+    expect(kes_read_key(in(&table), 15, in(&key), KES_KEY_SIZE) == KES_TABLE, "a table of 15 bytes is refused with 3");
     expect(kes_read_key(NULL, 0, NULL, 0) == KES_TABLE, "an empty table is refused with 3, before 4");
     expect(kes_read_key(in(&table), kes_table_size(H1, H2), in(&key), 33) == KES_LENGTH, "a long key is refused with 4");
     expect(memcmp(&other, &key, sizeof key) == 0, "a refused reading changes nothing");
@@ -149,6 +157,24 @@ static void catching_up(void)
     expect(kes_catch_up(in(&table), size, STEPS, &tally) == KES_PAST_END, "step 8 is refused with 6");
     expect(kes_catch_up(in(&table), size - 1, STEPS, &tally) == KES_TABLE, "3 comes before 6");
     expect(memcmp(&other, &table, sizeof table) == 0 && tally == before, "a catch-up that stays changes nothing, the tally neither");
+}
+
+/* Two windows: each sets its own number, and both have to allow a move. */
+static void releasing(void)
+{
+    size_t size = kes_table_size(H1, H2);
+    make_unreleased();
+    expect(kes_move(in(&table), size, 1, &tally) == KES_NOT_RELEASED, "a move that no window has released is refused with 12");
+    expect(kes_release(in(&table), size, 2, 1) == KES_WINDOW && kes_release(in(&table), size, (uint64_t)1 << 32, 1) == KES_WINDOW, "there is no third window");
+    expect(kes_release(in(&table), size, 0, STEPS + 1) == KES_LOWERED, "no release goes past the last step");
+    expect(kes_release(in(&table), size, 0, 3) == KES_DONE && kes_release(in(&table), size, 0, 3) == KES_DONE, "a number may stand, or go up");
+    expect(guarded(&table, size), "releasing writes nothing else");
+    expect(kes_release(in(&table), size, 0, 2) == KES_LOWERED, "a number never goes down");
+    expect(kes_catch_up(in(&table), size, 1, &tally) == KES_NOT_RELEASED, "one window is not enough");
+    expect(kes_release(in(&table), size, 1, STEPS) == KES_DONE, "the last number is that of all steps");
+    expect(kes_number(kes_move(in(&table), size, 3, &tally)) == KES_DONE && kes_move(in(&table), size, 4, &tally) == KES_NOT_RELEASED, "the lower number decides");
+    other = table;
+    expect(kes_release(in(&table), size - 1, 2, 0) == KES_TABLE && memcmp(&other, &table, sizeof table) == 0, "3 comes first, and a refusal changes nothing");
 }
 
 static void signing(void)
@@ -400,6 +426,7 @@ int main(int argc, char **argv)
     careless();
     moving();
     catching_up();
+    releasing();
     verifying();
     hashing(argv[1]);
     fair_making();

@@ -12,8 +12,10 @@ SCHEME = kes.Scheme(kes.Module(ed25519))
 def tables():
     table = bytearray(kes.table_size(H1, H2))
     SCHEME.make(H1, H2, bytearray(SEED), table)
+    SCHEME.release(table, 1, STEPS)  # the other window, which this desk has not
     found = [bytes(table)]
     for step in range(1, STEPS):
+        SCHEME.release(table, 0, step)
         SCHEME.move(table, step)
         found.append(bytes(table))
     return found

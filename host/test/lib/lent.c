@@ -177,6 +177,7 @@ static uint64_t call(const struct request *r)
     case READ_KEY: return kes_read_key(a, len[0], b, len[1]);
     case MOVE: return kes_move(a, len[0], r->step, tally);
     case CATCH_UP: return kes_catch_up(a, len[0], r->step, tally);
+    case RELEASE: return kes_release(a, len[0], r->h1, r->step);
     case SIGN: return kes_sign(a, len[0], b, len[1], c, len[2], tally);
     case VERIFY: return kes_verify(r->h1, r->h2, a, len[0], r->step, b, len[1], c, len[2]);
     case HASH: return kes_hash(a, len[0], b, len[1]);

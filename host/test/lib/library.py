@@ -4,9 +4,9 @@ import struct
 import subprocess
 
 ROOT = pathlib.Path(__file__).resolve().parents[3]
-MAKE, READ_KEY, MOVE, CATCH_UP, SIGN, VERIFY, HASH, FAIR_MAKE, FAIR_MOVE, FAIR_SIGN, FAIR_VERIFY = range(11)
-PLAIN_FILL, PLAIN_ROOT, PLAIN_PATH, PLAIN_SIGN = range(11, 15)
-CARD_ENTER, CARD_FIND = 15, 16
+MAKE, READ_KEY, MOVE, CATCH_UP, RELEASE, SIGN, VERIFY, HASH, FAIR_MAKE, FAIR_MOVE, FAIR_SIGN, FAIR_VERIFY = range(12)
+PLAIN_FILL, PLAIN_ROOT, PLAIN_PATH, PLAIN_SIGN = range(12, 16)
+CARD_ENTER, CARD_FIND = 16, 17
 # a tally, and the numbers n that are not answered: those with n % every == silent, none where every is 0
 ANSWERED = (0, 0, 0)
 # of lent.h: how many buffers a call is lent at most, and the longest that the driver takes

@@ -9,10 +9,10 @@ import fair
 import kes
 import plain
 import sodium
-from .library import ANSWERED, CATCH_UP, FAIR_MAKE, FAIR_MOVE, FAIR_SIGN, FAIR_VERIFY, HASH, LENT, MAKE, MOVE, READ_KEY, SIGN, VERIFY
+from .library import ANSWERED, CATCH_UP, FAIR_MAKE, FAIR_MOVE, FAIR_SIGN, FAIR_VERIFY, HASH, LENT, MAKE, MOVE, READ_KEY, RELEASE, SIGN, VERIFY
 from .library import PLAIN_FILL, PLAIN_PATH, PLAIN_ROOT, PLAIN_SIGN
 
-NAMES = ["make", "read key", "move", "catch up", "sign", "verify", "hash", "fair make", "fair move", "fair sign", "fair verify"]
+NAMES = ["make", "read key", "move", "catch up", "release", "sign", "verify", "hash", "fair make", "fair move", "fair sign", "fair verify"]
 NAMES += ["plain fill", "plain root", "plain path", "plain sign"]
 
 
@@ -52,6 +52,7 @@ class Model:
             READ_KEY: lambda: (s.read_key(a, b), 0),
             MOVE: lambda: s.move(a, step),
             CATCH_UP: lambda: s.catch_up(a, step),
+            RELEASE: lambda: (s.release(a, h1, step), 0),
             SIGN: lambda: (s.sign(a, b, c), 0),
             VERIFY: lambda: (s.verify(h1, h2, a, step, b, c), 0),
             HASH: lambda: (kes.hash_call(a, b), 0),

@@ -31,17 +31,25 @@ static void make(void)
     l->answer = kes_make(H1, H2, l->seed, sizeof l->seed, l->fresh, sizeof l->fresh, &l->tally);
 }
 
-static void move(void)
+static void release(void)
 {
     HERE();
     memcpy(l->table, l->fresh, sizeof l->table);
+    l->answer = kes_release(l->table, sizeof l->table, 0, l->step);
+    l->answer |= kes_release(l->table, sizeof l->table, 1, l->step);
+}
+
+static void move(void)
+{
+    HERE();
+    release();
     l->answer = kes_move(l->table, sizeof l->table, l->step, &l->tally);
 }
 
 static void catch_up(void)
 {
     HERE();
-    memcpy(l->table, l->fresh, sizeof l->table);
+    release();
     l->answer = kes_catch_up(l->table, sizeof l->table, l->step, &l->tally);
 }
 
@@ -148,6 +156,7 @@ static const struct {
     {"move to the next parent step", move, (uint64_t)1 << H2},
     {"move to the last step", move, ((uint64_t)1 << (H1 + H2)) - 1},
     {"catch up to the last step", catch_up, ((uint64_t)1 << (H1 + H2)) - 1},
+    {"release", release, 1},
     {"fair make", fair_make, 0},
     {"fair sign", fair_sign, 0},
     {"fair verify", fair_verify, 0},

@@ -62,11 +62,15 @@ static void give(const void *from, size_t len)
 
 static uint64_t make(const struct request *r)
 {
+    uint64_t answer;
     table_len = kes_table_size(r->h1, r->h2);
     signature_len = kes_signature_size(r->h1, r->h2);
     if (r->len != sizeof seed || !got(seed, sizeof seed))
         exit(1);
-    return kes_make(r->h1, r->h2, seed, sizeof seed, table, table_len, &tally);
+    answer = kes_make(r->h1, r->h2, seed, sizeof seed, table, table_len, &tally);
+    if (kes_number(answer) == KES_DONE && (kes_release(table, table_len, 0, kes_steps(r->h1, r->h2)) != KES_DONE || kes_release(table, table_len, 1, kes_steps(r->h1, r->h2)) != KES_DONE))
+        exit(1);
+    return answer;
 }
 
 static uint64_t sign(const struct request *r)

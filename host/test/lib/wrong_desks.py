@@ -26,6 +26,7 @@ NAMED = """    secret_write_new(&KEY, desk.table, desk.table_len);
     secret_name_new(&KEY);
 """
 
+LACKS_ONE = "lacks a record"
 LACKS, PAST, STUCK, FREED = "the journal lacks a record", "can sign a step before", "the desk does not go on", "freed blocks hold a key"
 
 # what is wrong, what is said of it, and the edits: a text that stands once in the desk's sources, and another in its place
@@ -48,12 +49,12 @@ WRONG = [
     ("the next start does not sync what a killed desk renamed", STUCK, [("    folder_sync();\n    desk.table_len = secret_read", "    desk.table_len = secret_read")]),
     ("the next start does not sync what a killed desk appended", LACKS, [(SYNC + "    if (tail->end", "    if (tail->end")]),
     ("the next start leaves a torn line", "the journal is not good", [("tail->from + (off_t)tail->end)", "tail->from + (off_t)tail->len)")]),
-    ("the next start does not name the last record", "is not named", [("    if (desk.serial > 0)\n", "    if (0)\n")]),
+    ("the next start does not name the last record", "is not named", [("    if (desk.serial > 0 && starts)\n", "    if (0 && starts)\n")]),
     ("the key stays in memory", "memory holds a secret", [("        at[i] = 0;\n", "        (void)at[i];\n")]),
     ("the desk goes on where the module is not reached", "does not wait", [("    return silent;\n", "    return 0;\n")]),
     ("the desk does not say that the module is not reached", "does not say", [("    if (silent && !out_of_reach)\n", "    if (0)\n")]),
     ("the same number is asked at a second time", "at another number", [("    int silent = number == KES_UNANSWERED;\n", "    int silent = number == KES_UNANSWERED;\n    tally -= (uint64_t)silent;\n")]),
-    ("the key gets its name before the journal is there", STUCK, [("    store_header();\n" + NAMED, NAMED + "    store_header();\n")]),
+    ("the key gets its name before the journal is there", STUCK, [("    each_window(windows, store_header);\n" + NAMED, NAMED + "    each_window(windows, store_header);\n")]),
 ]
 
 CERTIFIED = "    store_certificate();\n"
@@ -80,6 +81,16 @@ WRONG_FAIRS = [
     ("the evening leaves the cache", "other files", [("    if (fair.cache_len > 0)\n        destroy_cache();\n", "")]),
     ("each try has a tally of its own", "at another number", [("sizeof sale->signature, module_tally());", "sizeof sale->signature, &(uint64_t){0});")]),
     ("the cache stays in memory", "memory holds a secret", [("    memory_guard(&fair, sizeof fair);\n", "")]),
+]
+
+RELEASED = """    if (memcmp(before, desk.table, sizeof before) != 0)
+        secret_replace(&KEY, desk.table, desk.table_len);
+"""
+SHOW_RELEASED = '    show(kes_count(moved) > 0 ? "step: %" PRIu64 "\\n" : "released: %" PRIu64 "\\n", step);\n'
+WRONG_WINDOWS = [
+    ("a tick is not stored", "not at the step that both have released", [(RELEASED, "    (void)before;\n")]),
+    ("a step is shown before the moved key is stored", PAST, [(RELEASED + SHOW_RELEASED, SHOW_RELEASED + RELEASED)]),
+    ("money before the record", LACKS_ONE, [(STORE + MONEY, MONEY + STORE)]),
 ]
 
 # where the last step is sold
