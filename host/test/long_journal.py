@@ -1,5 +1,5 @@
 #!/usr/bin/env python3
-"""A journal of 100,000 good lines is judged right, in memory that does not grow with it; and lines that are malformed, out of
+"""A journal of 100,000 good lines is judged right and added up, in memory that does not grow with it; and lines that are malformed, out of
 order or of another serial ask Ed25519 nothing, counted. long_journal.py [LINES]. Needs desk/build before."""
 import pathlib
 import re
@@ -73,7 +73,29 @@ def long_journal(library, lines, folder):
         sys.exit("long_journal: a good line is judged otherwise")
     if peaks[1] > peaks[0] + PAGES:
         sys.exit(f"long_journal: {peaks[0]} KiB at line {early}, {peaks[1]} KiB at line {last}")
+    (folder / "journal").write_bytes(b"".join(data))
+    added_up(desk, lines, folder)
     print(f"long_journal: {lines} good lines, {size >> 20} MiB, {lines / took:.0f} lines a second, peak {peaks[0]} KiB then {peaks[1]} KiB")
+
+
+def added_up(desk, lines, folder):
+    """The same journal through build/quarter, in no more memory than a journal of one line takes."""
+    header, first, *_ = (folder / "journal").read_bytes().splitlines(keepends=True)
+    (folder / "short").write_bytes(header + first)
+    said, peaks = [], []
+    with subprocess.Popen([BUILD / "quarter"], stdin=subprocess.PIPE, stdout=subprocess.PIPE, cwd=folder) as process:
+        for name in b"short\n", b"journal\n":
+            process.stdin.write(name)
+            process.stdin.flush()
+            said.append(process.stdout.readline())
+            peaks.append(peak(process))
+        process.stdin.close()
+    mean, left = divmod(desk.cents, lines)
+    if said[1] != b"journal\t%d\t%d\t%d\t2\t%d\t%d\t%d\t%d\n" % (lines, lines, desk.cents, lines + 1, mean, left, lines):
+        sys.exit(f"long_journal: the good lines are added up otherwise: {said[1]}")
+    if peaks[1] > peaks[0] + PAGES:
+        sys.exit(f"long_journal: quarter holds {peaks[0]} KiB after one line, {peaks[1]} KiB after {lines}")
+    print(f"long_journal: {lines} good lines added up, peak {peaks[0]} KiB after one line and {peaks[1]} KiB after all")
 
 
 def counting(folder):

@@ -23,6 +23,7 @@ BEYOND = {
     "what a card has had": ["summary/Listed", "summary/History", "edge/EdgeCards"],
     "one signature, one step": ["reuse/OneStep", "reuse/Singly"],
     "a header in full": ["headers/InFull"],
+    "the quarter": ["accounts/Quarter"],
     "the running hash": ["blake2b/Running"],
 }
 # sealed: nobody who reads Ed25519.antt can see it
