@@ -278,9 +278,8 @@ static void release(uint64_t step)
         need(number, "kes_release");
 }
 
-/* A step that is not later is no fault: after a restart, or where two timers tick, the clock may say again what it said before. Then
- * the key stays, and its file is not written. */
-void desk_jump(uint64_t step)
+/* This window needs no earlier step any more, and the key catches up, once more after each silence of the module. */
+static uint64_t released_and_moved(uint64_t step)
 {
     uint64_t moved;
     release(step);
@@ -290,6 +289,14 @@ void desk_jump(uint64_t step)
     } while (module_silent(kes_number(moved)));
     if (kes_number(moved) == KES_PAST_END)
         refuse("the clock is past the key's last step; make a new key and have it registered");
+    return moved;
+}
+
+/* A step that is not later is no fault: after a restart, or where two timers tick, the clock may say again what it said before. Then
+ * the key stays, and its file is not written. */
+void desk_jump(uint64_t step)
+{
+    uint64_t moved = released_and_moved(step);
     need(kes_number(moved), "kes_catch_up");
     if (kes_count(moved) == 0)
         return;
@@ -304,13 +311,7 @@ void desk_release(uint64_t step)
     uint8_t before[HEADER_SIZE];
     uint64_t moved;
     memcpy(before, desk.table, sizeof before);
-    release(step);
-    do {
-        moved = kes_catch_up(desk.table, desk.table_len, step, module_tally());
-        kes_wipe();
-    } while (module_silent(kes_number(moved)));
-    if (kes_number(moved) == KES_PAST_END)
-        refuse("the clock is past the key's last step; make a new key and have it registered");
+    moved = released_and_moved(step);
     if (kes_number(moved) != KES_NOT_RELEASED)
         need(kes_number(moved), "kes_catch_up");
     if (memcmp(before, desk.table, sizeof before) != 0)
