@@ -16,7 +16,7 @@
  *     at the first asking without an answer and gives KES_UNANSWERED: then the tally has gone on and nothing else has changed, and the
  *     same call may be made again with the tally as it was left. Keep one tally for one module, in one variable, for all calls; begin
  *     anywhere, never set it back, and share it with no other thread.
- *   - kes_make, kes_move and kes_catch_up answer a number and a count in one word: take them apart with kes_number and kes_count.
+ *   - kes_make, kes3_make, kes_move and kes_catch_up answer a number and a count in one word: take them apart with kes_number and kes_count.
  *     When a make or a move is done the word is never 0, so `if (kes_move(..) == 0)` is always wrong; of a catch-up it is 0 where
  *     the key has stayed.
  *     The other calls, those of the fair and the plain engine too, answer the number alone;
@@ -41,17 +41,17 @@ extern "C" {
 /* What a call can answer. */
 enum kes_numbers {
     KES_DONE = 0,         /* done, or accepted */
-    KES_HEIGHT = 1,       /* a height above KES_HEIGHT_MAX, of the plain engine above KES_PLAIN_HEIGHT_MAX */
+    KES_HEIGHT = 1,       /* a height above KES_HEIGHT_MAX, of three trees above KES_HEIGHT3_MAX, of the plain engine above KES_PLAIN_HEIGHT_MAX */
     KES_SEED_OR_KEY = 2,  /* seed or verification key not 32 bytes, a fair's seeds not 32 for each entry */
     KES_TABLE = 3,        /* not a well-formed table, cache or card index */
     KES_LENGTH = 4,       /* output, signature or plain table not its exact length, or not KES_CARDS entries */
     KES_NOT_LATER = 5,    /* new step not later than the table's or cache's */
-    KES_PAST_END = 6,     /* step at or past kes_steps, a cache's entries, or a plain tree's leaves */
+    KES_PAST_END = 6,     /* step at or past kes_steps or kes3_steps, a cache's entries, or a plain tree's leaves */
     KES_TOO_LONG = 7,     /* message, or bytes fed to the hash, above KES_MESSAGE_MAX */
     KES_ENTRIES = 8,      /* a fair's entries not 1 to KES_FAIR_MAX */
     KES_UNANSWERED = 9,   /* the module did not answer: only the tally has changed */
     KES_WINDOW = 10,      /* a window that is not 0 or 1 */
-    KES_LOWERED = 11,     /* a release lower than it stood, or past kes_steps */
+    KES_LOWERED = 11,     /* a release lower than it stood, or past kes_steps or kes3_steps */
     KES_NOT_RELEASED = 12, /* a step that a window has not yet released */
     KES_FULL = 13,        /* a new card when KES_CARDS are held */
     KES_CARD_OR_AMOUNT = 14, /* card or amount out of the journal's range */
@@ -60,13 +60,14 @@ enum kes_numbers {
 };
 
 #define KES_HEIGHT_MAX 12u
+#define KES_HEIGHT3_MAX 8u
 #define KES_MESSAGE_MAX 4096u
 #define KES_SEED_SIZE 32u
 #define KES_KEY_SIZE 32u
 #define KES_DIGEST_SIZE 32u
-/* The largest sizes, at heights 12 and 12. */
-#define KES_TABLE_MAX 2960u
-#define KES_SIGNATURE_MAX 992u
+/* The largest sizes, at heights 8, 8 and 8; of two trees, at 12 and 12, they are 2960 and 992. */
+#define KES_TABLE_MAX 3280u
+#define KES_SIGNATURE_MAX 1120u
 
 #define KES_FAIR_MAX 256u
 #define KES_FAIR_SIGNATURE_SIZE 160u
@@ -90,6 +91,15 @@ static inline size_t kes_table_size(uint64_t h1, uint64_t h2) { return KES_TABLE
 static inline size_t kes_signature_size(uint64_t h1, uint64_t h2) { return KES_SIGNATURE_SIZE(h1, h2); }
 static inline uint64_t kes_steps(uint64_t h1, uint64_t h2) { return KES_HEIGHTS_FIT(h1, h2) ? (uint64_t)1 << (h1 + h2) : 0; }
 
+/* The same of a key of three trees, 0 where a height is not 0 to 8. */
+#define KES3_HEIGHTS_FIT(h1, h2, h3) ((uint64_t)(h1) <= KES_HEIGHT3_MAX && (uint64_t)(h2) <= KES_HEIGHT3_MAX && (uint64_t)(h3) <= KES_HEIGHT3_MAX)
+#define KES3_TABLE_SIZE(h1, h2, h3) (KES3_HEIGHTS_FIT(h1, h2, h3) ? 464u + 128u * ((size_t)(h1) + (size_t)(h2)) + 96u * (size_t)(h3) : 0u)
+#define KES3_SIGNATURE_SIZE(h1, h2, h3) (KES3_HEIGHTS_FIT(h1, h2, h3) ? 352u + 32u * ((size_t)(h1) + (size_t)(h2) + (size_t)(h3)) : 0u)
+
+static inline size_t kes3_table_size(uint64_t h1, uint64_t h2, uint64_t h3) { return KES3_TABLE_SIZE(h1, h2, h3); }
+static inline size_t kes3_signature_size(uint64_t h1, uint64_t h2, uint64_t h3) { return KES3_SIGNATURE_SIZE(h1, h2, h3); }
+static inline uint64_t kes3_steps(uint64_t h1, uint64_t h2, uint64_t h3) { return KES3_HEIGHTS_FIT(h1, h2, h3) ? (uint64_t)1 << (h1 + h2 + h3) : 0; }
+
 /* Sizes of a cache of n entries and of the seeds that it is made from, 0 where n is not 1 to 256. */
 #define KES_FAIR_FITS(n) ((uint64_t)(n) >= 1 && (uint64_t)(n) <= KES_FAIR_MAX)
 #define KES_FAIR_CACHE_SIZE(n) (KES_FAIR_FITS(n) ? 4u + 128u * (size_t)(n) : 0u)
@@ -108,7 +118,7 @@ static inline size_t kes_plain_table_size(uint64_t h) { return KES_PLAIN_TABLE_S
 static inline size_t kes_plain_path_size(uint64_t h) { return KES_PLAIN_PATH_SIZE(h); }
 static inline size_t kes_plain_signature_size(uint64_t h) { return KES_PLAIN_SIGNATURE_SIZE(h); }
 
-/* The number and the count in the answer of kes_make, kes_move and kes_catch_up. */
+/* The number and the count in the answer of kes_make, kes3_make, kes_move and kes_catch_up. */
 static inline uint32_t kes_number(uint64_t answer) { return (uint32_t)answer; }
 static inline uint32_t kes_count(uint64_t answer) { return (uint32_t)(answer >> 32); }
 
@@ -134,7 +144,8 @@ KES_CHECKED uint64_t kes_catch_up(uint8_t *table, size_t table_len, uint64_t ste
 
 /* TWO WINDOWS on one key. The table holds for window 0 and for window 1 the first step that it still needs, 0 when the key is made. A
  * move or a catch-up past the present step needs both at that step or above. A release sets a window's number, from the one that stands
- * up to kes_steps, and changes nothing else; so a desk with one window releases the other to kes_steps right after making.
+ * up to kes_steps (of three trees kes3_steps), and changes nothing else; so a desk with one window releases the other to it right after
+ * making.
  * Refuses 3, 10, 11. */
 KES_CHECKED uint32_t kes_release(uint8_t *table, size_t table_len, uint64_t window, uint64_t step);
 
@@ -143,6 +154,17 @@ KES_CHECKED uint32_t kes_sign(const uint8_t *table, size_t table_len, const uint
 
 /* Verifies a signature over a message at a step. Answers KES_DONE or KES_NOT_ACCEPTED; refuses 1, 2, 4, 7, 6. */
 KES_CHECKED uint32_t kes_verify(uint64_t h1, uint64_t h2, const uint8_t *key, size_t key_len, uint64_t step, const uint8_t *message, size_t message_len, const uint8_t *signature, size_t signature_len);
+
+/* THREE TREES, for a desk that is registered once for years: 2^(h1+h2+h3) steps, heights 0 to 8 each. The left tree vouches for the middle
+ * one, and that for the right. Only making and verifying have calls of their own: byte 2 of a table says how many trees it has, 1 for two
+ * and 2 for three, and kes_read_key, kes_move, kes_catch_up, kes_release and kes_sign take either. docs/HOST.md has heights for years. */
+
+/* Makes a key of three trees. As kes_make in all else: refuses 1, 2, 4, 9.
+ *     uint64_t made = kes3_make(6, 6, 6, seed, sizeof seed, table, kes3_table_size(6, 6, 6), &tally); */
+KES_CHECKED uint64_t kes3_make(uint64_t h1, uint64_t h2, uint64_t h3, uint8_t *seed, size_t seed_len, uint8_t *table, size_t table_len, uint64_t *tally);
+
+/* Verifies a signature by a key of three trees. As kes_verify in all else: refuses 1, 2, 4, 7, 6. */
+KES_CHECKED uint32_t kes3_verify(uint64_t h1, uint64_t h2, uint64_t h3, const uint8_t *key, size_t key_len, uint64_t step, const uint8_t *message, size_t message_len, const uint8_t *signature, size_t signature_len);
 
 /* BLAKE2b (RFC 7693), no key, 32-byte digest, of message into digest; for running vectors. Refuses 7, 4. */
 KES_CHECKED uint32_t kes_hash(const uint8_t *message, size_t message_len, uint8_t *digest, size_t digest_len);

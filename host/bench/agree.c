@@ -1,4 +1,4 @@
-/* agree [KEYS]: lives of random keys, of random fairs' caches and of random plain trees, in the proved library and in its plain peer. Every answer and every byte
+/* agree [KEYS]: lives of random keys of two trees and of three, of random fairs' caches and of random plain trees, in the proved library and in its plain peer. Every answer and every byte
  * that is left must be the same, on good requests and on spoiled ones, some of which the module does not answer. Always the same lives. */
 #include <stdio.h>
 #include <stdlib.h>
@@ -17,7 +17,8 @@ static const char *const names[CALLS] = {"make", "read key", "move", "release", 
 
 /* A call's numbers and lengths, and the bytes lent, each buffer with room for one byte too many. */
 struct request {
-    uint64_t h1, h2, step, window, n, tally;
+    struct heights of; /* h1 is also a plain tree's height */
+    uint64_t step, window, n, tally;
     size_t seed_len, table_len, key_len, message_len, signature_len, seeds_len, cache_len, tree_len, path_len;
     uint8_t seed[KES_SEED_SIZE + 1], table[KES_TABLE_MAX + 1], key[KES_KEY_SIZE + 1], message[KES_MESSAGE_MAX + 1],
         signature[KES_SIGNATURE_MAX + 1], seeds[KES_FAIR_SEEDS_SIZE(KES_FAIR_MAX) + 1], cache[KES_FAIR_CACHE_MAX + 1], tree[KES_PLAIN_TABLE_MAX + 1],
@@ -78,10 +79,10 @@ static uint64_t ask_fair(const struct fair *f, int call, struct request *r)
 static uint64_t ask_whole(const struct whole *w, int call, struct request *r)
 {
     switch (call) {
-    case FILL: return w->fill(r->h1, r->seed, r->seed_len, r->tree, r->tree_len, &r->tally);
-    case ROOT: return w->root(r->h1, r->tree, r->tree_len, r->key, r->key_len);
-    case PATH: return w->path(r->h1, r->tree, r->tree_len, r->step, r->path, r->path_len);
-    default: return w->sign(r->h1, r->tree, r->tree_len, r->step, r->message, r->message_len, r->signature, r->signature_len, &r->tally);
+    case FILL: return w->fill(r->of.h1, r->seed, r->seed_len, r->tree, r->tree_len, &r->tally);
+    case ROOT: return w->root(r->of.h1, r->tree, r->tree_len, r->key, r->key_len);
+    case PATH: return w->path(r->of.h1, r->tree, r->tree_len, r->step, r->path, r->path_len);
+    default: return w->sign(r->of.h1, r->tree, r->tree_len, r->step, r->message, r->message_len, r->signature, r->signature_len, &r->tally);
     }
 }
 
@@ -92,13 +93,13 @@ static uint64_t ask(const struct scheme *s, const struct fair *f, const struct w
     if (call >= KEY_CALLS)
         return ask_fair(f, call, r);
     switch (call) {
-    case MAKE: return s->make(r->h1, r->h2, r->seed, r->seed_len, r->table, r->table_len, &r->tally);
+    case MAKE: return make_by(s, r->of, r->seed, r->seed_len, r->table, r->table_len, &r->tally);
     case READ_KEY: return s->read_key(r->table, r->table_len, r->key, r->key_len);
     case MOVE: return s->move(r->table, r->table_len, r->step, &r->tally);
     case RELEASE: return s->release(r->table, r->table_len, r->window, r->step);
     case SIGN: return s->sign(r->table, r->table_len, r->message, r->message_len, r->signature, r->signature_len, &r->tally);
     default:
-        return s->verify(r->h1, r->h2, r->key, r->key_len, r->step, r->message, r->message_len, r->signature, r->signature_len);
+        return verify_by(s, r->of, r->key, r->key_len, r->step, r->message, r->message_len, r->signature, r->signature_len);
     }
 }
 
@@ -111,8 +112,8 @@ static uint32_t both(int call)
     answer = ask(&library, &library_fair, &library_whole, call, &lent);
     peer = ask(&plain, &plain_fair, &plain_whole, call, &peers);
     if (answer != peer || memcmp(&lent, &peers, sizeof lent) != 0) {
-        fprintf(stderr, "agree: library and plain C differ: %s at (%u,%u) or %u entries, step %u: %llx and %llx\n", names[call], (unsigned)lent.h1,
-                (unsigned)lent.h2, (unsigned)lent.n, (unsigned)lent.step, (unsigned long long)answer, (unsigned long long)peer);
+        fprintf(stderr, "agree: library and plain C differ: %s at (%u,%u,%u) of %u trees or %u entries, step %u: %llx and %llx\n", names[call], (unsigned)lent.of.h1,
+                (unsigned)lent.of.h2, (unsigned)lent.of.h3, (unsigned)lent.of.trees, (unsigned)lent.n, (unsigned)lent.step, (unsigned long long)answer, (unsigned long long)peer);
         exit(1);
     }
     seen[kes_number(answer)]++;
@@ -122,8 +123,8 @@ static uint32_t both(int call)
 /* One wrong number, one wrong length or one changed byte. */
 static void spoil(void)
 {
-    enum { NUMBERS = 5, LENGTHS = 9, BYTES = 6 };
-    uint64_t *numbers[NUMBERS] = {&lent.h1, &lent.h2, &lent.step, &lent.window, &lent.n};
+    enum { NUMBERS = 6, LENGTHS = 9, BYTES = 6 };
+    uint64_t *numbers[NUMBERS] = {&lent.of.h1, &lent.of.h2, &lent.of.h3, &lent.step, &lent.window, &lent.n};
     size_t *lengths[LENGTHS] = {&lent.seed_len, &lent.table_len, &lent.key_len, &lent.message_len, &lent.signature_len, &lent.seeds_len, &lent.cache_len,
         &lent.tree_len, &lent.path_len};
     uint8_t *bytes[BYTES] = {lent.table, lent.key, lent.message, lent.signature, lent.cache, lent.tree};
@@ -146,7 +147,7 @@ static void spoiled(int times, int first, int calls)
         int call = first + (int)draw((uint64_t)calls);
         lent.window = draw(2);
         if (call == MOVE || call == RELEASE)
-            lent.step += draw(kes_steps(lent.h1, lent.h2) - lent.step);
+            lent.step += draw(steps(lent.of) - lent.step);
         if (call == FAIR_MOVE)
             lent.step += draw(lent.n - lent.step);
         if (draw(4) == 0) {
@@ -169,11 +170,11 @@ static void must(int call)
     }
 }
 
-static void start(uint64_t h1, uint64_t h2)
+static void start(struct heights of)
 {
     memset(&lent, 0, sizeof lent);
-    lent.h1 = h1, lent.h2 = h2;
-    lent.seed_len = KES_SEED_SIZE, lent.table_len = kes_table_size(h1, h2), lent.key_len = KES_KEY_SIZE, lent.signature_len = kes_signature_size(h1, h2);
+    lent.of = of;
+    lent.seed_len = KES_SEED_SIZE, lent.table_len = table_size(of), lent.key_len = KES_KEY_SIZE, lent.signature_len = signature_size(of);
     draw_bytes(lent.seed, KES_SEED_SIZE);
     must(MAKE);
     must(READ_KEY);
@@ -208,10 +209,10 @@ static void go_to(uint64_t step)
 }
 
 /* From step 0 to the last in random strides, with spoiled requests at every step on the way. */
-static void live(uint64_t h1, uint64_t h2)
+static void live(struct heights of)
 {
-    uint64_t last = kes_steps(h1, h2) - 1;
-    start(h1, h2);
+    uint64_t last = steps(of) - 1;
+    start(of);
     sign_and_verify();
     spoiled(12, MAKE, KEY_CALLS);
     while (lent.step < last) {
@@ -257,7 +258,7 @@ static void live_fair(uint64_t n)
 static void live_whole(uint64_t h)
 {
     memset(&lent, 0, sizeof lent);
-    lent.h1 = h;
+    lent.of.h1 = h;
     lent.seed_len = KES_SEED_SIZE, lent.tree_len = kes_plain_table_size(h), lent.key_len = KES_KEY_SIZE;
     lent.path_len = kes_plain_path_size(h), lent.signature_len = kes_plain_signature_size(h);
     draw_bytes(lent.seed, KES_SEED_SIZE);
@@ -273,15 +274,27 @@ static void live_whole(uint64_t h)
 }
 
 /* The moves that are raced: 0 to 1, and from 0 to the last step. */
-static void live_raced(uint64_t h1, uint64_t h2)
+static void live_raced(struct heights of)
 {
     static struct request fresh;
-    start(h1, h2);
+    start(of);
     sign_and_verify();
     fresh = lent;
     go_to(1);
     lent = fresh;
-    go_to(kes_steps(h1, h2) - 1);
+    go_to(steps(of) - 1);
+}
+
+static struct heights two_trees(void)
+{
+    struct heights of = {2, draw(5), draw(5), 0};
+    return of;
+}
+
+static struct heights three_trees(void)
+{
+    struct heights of = {3, draw(4), draw(3), draw(4)};
+    return of;
 }
 
 int main(int argc, char **argv)
@@ -290,9 +303,11 @@ int main(int argc, char **argv)
     if (sodium_init() < 0)
         return 1;
     for (i = 0; i < keys; i++)
-        live(draw(5), draw(5));
+        live(two_trees());
+    for (i = 0; i < keys; i++)
+        live(three_trees());
     for (i = 0; i < HEIGHTS; i++)
-        live_raced(heights[i].h1, heights[i].h2);
+        live_raced(heights[i]);
     for (i = 0; i < keys; i++)
         live_fair(1 + draw(12));
     live_fair(KES_FAIR_MAX);
@@ -306,6 +321,6 @@ int main(int argc, char **argv)
             fprintf(stderr, "agree: no request was answered %d\n", i);
             return 1;
         }
-    printf("agree: in %d lives of keys, %d of fairs and %d of plain trees every answer and every byte left is the same\n", keys + HEIGHTS, keys + 1, keys + 1);
+    printf("agree: in %d lives of keys, %d of fairs and %d of plain trees every answer and every byte left is the same\n", 2 * keys + HEIGHTS, keys + 1, keys + 1);
     return 0;
 }

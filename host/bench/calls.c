@@ -16,7 +16,7 @@ enum { KEY_WORKS = KINDS * HEIGHTS, WORKS = KEY_WORKS + FAIR_WORKS + WHOLE_WORKS
 
 /* A key at step 0, with a signature of it. */
 struct key {
-    uint64_t h1, h2;
+    struct heights of;
     size_t table_len, signature_len;
     uint8_t table[KES_TABLE_MAX], key[KES_KEY_SIZE], signature[KES_SIGNATURE_MAX];
 };
@@ -34,7 +34,7 @@ static const struct scheme *scheme_of(enum racer racer) { return racer == PLAIN 
 static uint64_t make(enum racer racer, const void *of)
 {
     const struct key *k = of;
-    return scheme_of(racer)->make(k->h1, k->h2, seed, sizeof seed, table, k->table_len, &tally);
+    return make_by(scheme_of(racer), k->of, seed, sizeof seed, table, k->table_len, &tally);
 }
 
 static uint64_t step(enum racer racer, const void *of)
@@ -43,12 +43,12 @@ static uint64_t step(enum racer racer, const void *of)
     return scheme_of(racer)->move(table, k->table_len, 1, &tally);
 }
 
-/* The worst move, by the rules and in this library: it parts at the parent's top bit, which grows half the parent and a whole child,
- * and it jumps over all parent steps between, each a hash. */
+/* The worst move, by the rules and in this library: it parts at the top tree's top bit, which grows half of it and all of every tree
+ * below, and it jumps over all steps between of each tree but the last, each a hash. */
 static uint64_t leap(enum racer racer, const void *of)
 {
     const struct key *k = of;
-    return scheme_of(racer)->move(table, k->table_len, kes_steps(k->h1, k->h2) - 1, &tally);
+    return scheme_of(racer)->move(table, k->table_len, steps(k->of) - 1, &tally);
 }
 
 static uint64_t sign(enum racer racer, const void *of)
@@ -60,7 +60,7 @@ static uint64_t sign(enum racer racer, const void *of)
 static uint64_t verify(enum racer racer, const void *of)
 {
     const struct key *k = of;
-    return scheme_of(racer)->verify(k->h1, k->h2, k->key, sizeof k->key, 0, message, sizeof message, k->signature, k->signature_len);
+    return verify_by(scheme_of(racer), k->of, k->key, sizeof k->key, 0, message, sizeof message, k->signature, k->signature_len);
 }
 
 static const struct {
@@ -86,24 +86,34 @@ static void lay_out(const void *of)
 static void make_key(int h)
 {
     struct key *k = &keys[h];
-    k->h1 = heights[h].h1;
-    k->h2 = heights[h].h2;
-    k->table_len = kes_table_size(k->h1, k->h2);
-    k->signature_len = kes_signature_size(k->h1, k->h2);
+    k->of = heights[h];
+    k->table_len = table_size(k->of);
+    k->signature_len = signature_size(k->of);
     lay_out(k);
     must(kes_number(make(LIBRARY, k)) == KES_DONE, "no key is made");
-    must(kes_release(table, k->table_len, 0, kes_steps(k->h1, k->h2)) == KES_DONE, "window 0 is not released");
-    must(kes_release(table, k->table_len, 1, kes_steps(k->h1, k->h2)) == KES_DONE, "window 1 is not released");
+    must(kes_release(table, k->table_len, 0, steps(k->of)) == KES_DONE, "window 0 is not released");
+    must(kes_release(table, k->table_len, 1, steps(k->of)) == KES_DONE, "window 1 is not released");
     memcpy(k->table, table, k->table_len);
     must(kes_read_key(table, k->table_len, k->key, sizeof k->key) == KES_DONE, "no key is read");
     must(sign(LIBRARY, k) == KES_DONE, "nothing is signed");
     memcpy(k->signature, signature, k->signature_len);
 }
 
+/* The heights of a key, in brackets. */
+static const char *told(const struct key *k)
+{
+    static char text[16];
+    if (k->of.trees == 2)
+        snprintf(text, sizeof text, "(%u,%u)", (unsigned)k->of.h1 % 100, (unsigned)k->of.h2 % 100);
+    else
+        snprintf(text, sizeof text, "(%u,%u,%u)", (unsigned)k->of.h1 % 100, (unsigned)k->of.h2 % 100, (unsigned)k->of.h3 % 100);
+    return text;
+}
+
 static struct work key_work(int w, const struct key *k)
 {
-    struct work work = {"", lay_out, kinds[w].of, k, kinds[w].calls, kinds[w].grows && k->h1 == KES_HEIGHT_MAX, kinds[w].aim};
-    snprintf(work.name, sizeof work.name, "%s (%u,%u)", kinds[w].name, (unsigned)k->h1, (unsigned)k->h2);
+    struct work work = {"", lay_out, kinds[w].of, k, kinds[w].calls, kinds[w].grows && k->of.h1 == KES_HEIGHT_MAX, kinds[w].aim};
+    snprintf(work.name, sizeof work.name, "%s %s", kinds[w].name, told(k));
     return work;
 }
 
@@ -142,7 +152,7 @@ static void tell_stay(const struct key *k)
     }
     stay = median(stays, ROUNDS);
     move = median(moves, ROUNDS);
-    printf("# catch-up that stays (%u,%u): %.0f ns, %.2f percent of one from 0 to 1; aim: below 1: %s\n", (unsigned)k->h1, (unsigned)k->h2, stay, 100 * stay / move,
+    printf("# catch-up that stays %s: %.0f ns, %.2f percent of one from 0 to 1; aim: below 1: %s\n", told(k), stay, 100 * stay / move,
            100 * stay < move ? "met" : "missed");
 }
 

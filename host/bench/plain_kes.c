@@ -6,18 +6,60 @@
 #include "kes.h"
 #include "plain_kes.h"
 
-enum { NODE = 32, LEVEL = 3 * NODE, LEAF = 2 * NODE, SIGNED = 3 * NODE, HEADER = 16, WINDOWS = 2 };
+enum { NODE = 32, LEVEL = 3 * NODE, LEAF = 2 * NODE, SIGNED = 3 * NODE, HEADER = 16, WINDOWS = 2, TREES = 3 };
 
-struct header {
-    size_t h1, h2, step, needs[WINDOWS];
+/* Two heights or three, the top tree's first. A part of a key begins at any of them, and is all that is below. */
+struct heights {
+    size_t trees, h[TREES];
 };
 
-/* Where the table's parts begin. */
+struct header {
+    struct heights of;
+    size_t step, needs[WINDOWS];
+};
+
+/* Where the pieces of a part of two trees or more begin: the tree, its sum signature, the next seed, and the part below. */
 static size_t tree_size(size_t h) { return LEVEL * h + LEAF; }
 static size_t sum_size(size_t h) { return SIGNED + NODE * h; }
-static size_t vouched_at(size_t h1) { return HEADER + tree_size(h1); }
-static size_t next_at(size_t h1) { return vouched_at(h1) + sum_size(h1); }
-static size_t child_at(size_t h1) { return next_at(h1) + NODE; }
+static size_t vouched_at(size_t h) { return tree_size(h); }
+static size_t next_at(size_t h) { return vouched_at(h) + sum_size(h); }
+static size_t below_at(size_t h) { return next_at(h) + NODE; }
+
+static struct heights two(uint64_t h1, uint64_t h2)
+{
+    struct heights of = {2, {h1, h2, 0}};
+    return of;
+}
+
+static struct heights three(uint64_t h1, uint64_t h2, uint64_t h3)
+{
+    struct heights of = {3, {h1, h2, h3}};
+    return of;
+}
+
+static struct heights below(struct heights of)
+{
+    struct heights rest = {of.trees - 1, {of.h[1], of.h[2], 0}};
+    return rest;
+}
+
+static int fit(struct heights of)
+{
+    return of.trees == 2 ? KES_HEIGHTS_FIT(of.h[0], of.h[1]) : KES3_HEIGHTS_FIT(of.h[0], of.h[1], of.h[2]);
+}
+
+static size_t table_size(struct heights of)
+{
+    return of.trees == 2 ? kes_table_size(of.h[0], of.h[1]) : kes3_table_size(of.h[0], of.h[1], of.h[2]);
+}
+
+static size_t signature_size(struct heights of)
+{
+    return of.trees == 2 ? kes_signature_size(of.h[0], of.h[1]) : kes3_signature_size(of.h[0], of.h[1], of.h[2]);
+}
+
+/* The steps of a part, 1 where nothing is below. A height that it has not is 0. */
+static size_t steps(struct heights of) { return (size_t)1 << (of.h[0] + of.h[1] + of.h[2]); }
 
 static void hash(const uint8_t *bytes, size_t len, uint8_t *out)
 {
@@ -140,61 +182,119 @@ static void put_four(uint8_t *at, size_t number)
 
 static int read_header(const uint8_t *table, size_t len, struct header *found)
 {
-    size_t end, i;
-    if (len < HEADER || !KES_HEIGHTS_FIT(table[0], table[1]) || table[2] != 1 || table[3] != 0)
+    size_t i;
+    if (len < HEADER || (table[2] != 2 && (table[2] != 1 || table[3] != 0)))
         return 0;
-    found->h1 = table[0];
-    found->h2 = table[1];
-    found->step = get_four(table + 4);
-    end = kes_steps(found->h1, found->h2);
+    found->of = table[2] == 2 ? three(table[0], table[1], table[3]) : two(table[0], table[1]);
+    if (!fit(found->of) || len != table_size(found->of))
+        return 0;
     for (i = 0; i < WINDOWS; i++)
-        if ((found->needs[i] = get_four(table + 8 + 4 * i)) > end)
+        if ((found->needs[i] = get_four(table + 8 + 4 * i)) > steps(found->of))
             return 0;
-    return len == kes_table_size(found->h1, found->h2) && found->step < end;
+    return (found->step = get_four(table + 4)) < steps(found->of);
 }
 
-static void put_header(uint8_t *table, size_t h1, size_t h2)
+static void put_header(uint8_t *table, struct heights of)
 {
     memset(table, 0, HEADER);
-    table[0] = (uint8_t)h1;
-    table[1] = (uint8_t)h2;
-    table[2] = 1;
+    table[0] = (uint8_t)of.h[0];
+    table[1] = (uint8_t)of.h[1];
+    table[2] = (uint8_t)(of.trees - 1);
+    table[3] = (uint8_t)of.h[2];
 }
 
 static uint64_t done(size_t count) { return (uint64_t)count << 32 | KES_DONE; }
 
-/* Grows the child of a stored seed, and lets the parent's leaf sign its root for the last time. */
-static int enter(uint8_t *table, size_t h1, size_t t1, const uint8_t *stored, size_t h2, size_t t2, uint64_t *tally)
+/* The leaf signs the root of what is below for the last time. */
+static int seal(uint8_t *part, size_t h, size_t t, const uint8_t *root, uint64_t *tally)
 {
-    uint8_t seed[NODE], root[NODE], *parent = table + HEADER;
-    side(0, stored, seed);
-    if (!grow(seed, h2, t2, table + child_at(h1), root, tally))
+    if (!sum_sign(part, h, t, root, NODE, part + vouched_at(h), tally))
         return 0;
-    side(1, stored, table + next_at(h1));
-    if (!sum_sign(parent, h1, t1, root, NODE, table + vouched_at(h1), tally))
-        return 0;
-    memset(parent + LEVEL * h1, 0, NODE);
+    memset(part + LEVEL * h, 0, NODE);
     return 1;
 }
 
-/* In a copy, since the table stays where an asking is not answered. */
-uint64_t plain_make(uint64_t h1, uint64_t h2, uint8_t *seed, size_t seed_len, uint8_t *table, size_t table_len, uint64_t *tally)
+/* A step that is jumped over still advances the stored seed. */
+static void advance(uint8_t *stored, size_t jumped)
 {
-    uint8_t parent[NODE], stored[NODE], unused[NODE], copy[KES_TABLE_MAX];
-    if (!KES_HEIGHTS_FIT(h1, h2))
+    for (; jumped > 0; jumped--)
+        side(1, stored, stored);
+}
+
+/* Writes the part that grows from a seed, at step t, and its root: each tree at its step, in one pass. */
+static int grow_part(const uint8_t *seed, struct heights of, size_t t, uint8_t *part, uint8_t *root, uint64_t *tally)
+{
+    uint8_t top[NODE], stored[NODE], vouched[NODE];
+    size_t i = t / steps(below(of)), inner = t % steps(below(of)), h = of.h[0];
+    if (of.trees == 1)
+        return grow(seed, h, t, part, root, tally);
+    side(0, seed, top);
+    side(1, seed, stored);
+    advance(stored, i);
+    side(1, stored, part + next_at(h));
+    side(0, stored, stored);
+    return grow(top, h, i, part, root, tally) && grow_part(stored, below(of), inner, part + below_at(h), vouched, tally)
+        && seal(part, h, i, vouched, tally);
+}
+
+/* The rules' count of a part that is grown new, at step t: each tree's leaves, and as many as its step. */
+static size_t count_grown(struct heights of, size_t t)
+{
+    size_t wide = steps(below(of)), own = ((size_t)1 << of.h[0]) + t / wide;
+    return of.trees == 1 ? own : own + count_grown(below(of), t % wide);
+}
+
+/* The top tree moves, and what is below grows anew. */
+static size_t move_across(uint8_t *part, struct heights of, size_t i, size_t new_i, size_t inner, uint64_t *tally)
+{
+    uint8_t stored[NODE], vouched[NODE];
+    size_t h = of.h[0], count = move_tree(part, h, i, new_i, tally);
+    memcpy(stored, part + next_at(h), NODE);
+    advance(stored, new_i - i - 1);
+    side(1, stored, part + next_at(h));
+    side(0, stored, stored);
+    if (count == 0 || !grow_part(stored, below(of), inner, part + below_at(h), vouched, tally) || !seal(part, h, new_i, vouched, tally))
+        return 0;
+    return count + count_grown(below(of), inner);
+}
+
+/* Answers as move_tree. */
+static size_t move_part(uint8_t *part, struct heights of, size_t from, size_t to, uint64_t *tally)
+{
+    size_t wide = steps(below(of));
+    if (of.trees == 1)
+        return move_tree(part, of.h[0], from, to, tally);
+    if (from / wide == to / wide)
+        return move_part(part + below_at(of.h[0]), below(of), from % wide, to % wide, tally);
+    return move_across(part, of, from / wide, to / wide, to % wide, tally);
+}
+
+/* In a copy, since the table stays where an asking is not answered. */
+static uint64_t make_with(struct heights of, uint8_t *seed, size_t seed_len, uint8_t *table, size_t table_len, uint64_t *tally)
+{
+    uint8_t unused[NODE], copy[KES_TABLE_MAX];
+    if (!fit(of))
         return KES_HEIGHT;
     if (seed_len != KES_SEED_SIZE)
         return KES_SEED_OR_KEY;
-    if (table_len != kes_table_size(h1, h2))
+    if (table_len != table_size(of))
         return KES_LENGTH;
-    side(0, seed, parent);
-    side(1, seed, stored);
-    put_header(copy, h1, h2);
-    if (!grow(parent, h1, 0, copy + HEADER, unused, tally) || !enter(copy, h1, 0, stored, h2, 0, tally))
+    put_header(copy, of);
+    if (!grow_part(seed, of, 0, copy + HEADER, unused, tally))
         return KES_UNANSWERED;
     memcpy(table, copy, table_len);
     memset(seed, 0, NODE);
-    return done(((size_t)1 << h1) + ((size_t)1 << h2));
+    return done(count_grown(of, 0));
+}
+
+uint64_t plain_make(uint64_t h1, uint64_t h2, uint8_t *seed, size_t seed_len, uint8_t *table, size_t table_len, uint64_t *tally)
+{
+    return make_with(two(h1, h2), seed, seed_len, table, table_len, tally);
+}
+
+uint64_t plain3_make(uint64_t h1, uint64_t h2, uint64_t h3, uint8_t *seed, size_t seed_len, uint8_t *table, size_t table_len, uint64_t *tally)
+{
+    return make_with(three(h1, h2, h3), seed, seed_len, table, table_len, tally);
 }
 
 uint32_t plain_read_key(const uint8_t *table, size_t table_len, uint8_t *key, size_t key_len)
@@ -204,22 +304,8 @@ uint32_t plain_read_key(const uint8_t *table, size_t table_len, uint8_t *key, si
         return KES_TABLE;
     if (key_len != KES_KEY_SIZE)
         return KES_LENGTH;
-    root_of(table + HEADER, at.h1, key);
+    root_of(table + HEADER, at.of.h[0], key);
     return KES_DONE;
-}
-
-/* The parent moves, and a new child grows. A parent step that is jumped over still advances the stored seed. */
-static size_t move_parent(uint8_t *table, struct header at, size_t step, uint64_t *tally)
-{
-    size_t t1 = at.step >> at.h2, new_t1 = step >> at.h2, t2 = step % ((size_t)1 << at.h2), jumped, count;
-    uint8_t stored[NODE];
-    memcpy(stored, table + next_at(at.h1), NODE);
-    for (jumped = t1 + 1; jumped < new_t1; jumped++)
-        side(1, stored, stored);
-    count = move_tree(table + HEADER, at.h1, t1, new_t1, tally);
-    if (count == 0 || !enter(table, at.h1, new_t1, stored, at.h2, t2, tally))
-        return 0;
-    return count + ((size_t)1 << at.h2) + t2;
 }
 
 /* In a copy too. */
@@ -227,21 +313,17 @@ uint64_t plain_move(uint8_t *table, size_t table_len, uint64_t step, uint64_t *t
 {
     uint8_t copy[KES_TABLE_MAX];
     struct header at;
-    size_t wide, count;
+    size_t count;
     if (!read_header(table, table_len, &at))
         return KES_TABLE;
-    if (step >= kes_steps(at.h1, at.h2))
+    if (step >= steps(at.of))
         return KES_PAST_END;
     if (step <= at.step)
         return KES_NOT_LATER;
     if (step > at.needs[0] || step > at.needs[1])
         return KES_NOT_RELEASED;
     memcpy(copy, table, table_len);
-    wide = (size_t)1 << at.h2;
-    if (step / wide == at.step / wide)
-        count = move_tree(copy + child_at(at.h1), at.h2, at.step % wide, step % wide, tally);
-    else
-        count = move_parent(copy, at, step, tally);
+    count = move_part(copy + HEADER, at.of, at.step, step, tally);
     if (count == 0)
         return KES_UNANSWERED;
     put_four(copy + 4, step);
@@ -256,47 +338,82 @@ uint32_t plain_release(uint8_t *table, size_t table_len, uint64_t window, uint64
         return KES_TABLE;
     if (window >= WINDOWS)
         return KES_WINDOW;
-    if (step < at.needs[window] || step > kes_steps(at.h1, at.h2))
+    if (step < at.needs[window] || step > steps(at.of))
         return KES_LOWERED;
     put_four(table + 8 + 4 * window, step);
     return KES_DONE;
 }
 
+/* The signatures that are stored, and the roots of what is below each, in their places. */
+static void put_vouched(const uint8_t *part, struct heights of, uint8_t *sums, uint8_t *roots)
+{
+    size_t h = of.h[0];
+    if (of.trees == 1)
+        return;
+    memcpy(sums, part + vouched_at(h), sum_size(h));
+    root_of(part + below_at(h), of.h[1], roots);
+    put_vouched(part + below_at(h), below(of), sums + sum_size(h), roots + NODE);
+}
+
 uint32_t plain_sign(const uint8_t *table, size_t table_len, const uint8_t *message, size_t message_len, uint8_t *signature, size_t signature_len, uint64_t *tally)
 {
-    uint8_t childs[SIGNED + NODE * KES_HEIGHT_MAX];
+    uint8_t last[SIGNED + NODE * KES_HEIGHT_MAX], *roots;
     struct header at;
-    const uint8_t *child;
+    size_t h, tree_len;
     if (!read_header(table, table_len, &at))
         return KES_TABLE;
     if (message_len > KES_MESSAGE_MAX)
         return KES_TOO_LONG;
-    if (signature_len != kes_signature_size(at.h1, at.h2))
+    if (signature_len != signature_size(at.of))
         return KES_LENGTH;
-    child = table + child_at(at.h1);
-    if (!sum_sign(child, at.h2, at.step % ((size_t)1 << at.h2), message, message_len, childs, tally))
+    h = at.of.h[at.of.trees - 1], tree_len = tree_size(h);
+    if (!sum_sign(table + table_len - tree_len, h, at.step % ((size_t)1 << h), message, message_len, last, tally))
         return KES_UNANSWERED;
-    memcpy(signature, table + vouched_at(at.h1), sum_size(at.h1));
-    memcpy(signature + sum_size(at.h1), childs, sum_size(at.h2));
-    root_of(child, at.h2, signature + sum_size(at.h1) + sum_size(at.h2));
+    roots = signature + signature_len - NODE * (at.of.trees - 1);
+    put_vouched(table + HEADER, at.of, signature, roots);
+    memcpy(roots - sum_size(h), last, sum_size(h));
     return KES_DONE;
+}
+
+/* Every path first: a bad one costs no Ed25519 check. */
+static int paths_fit(const uint8_t *root, struct heights of, size_t step, const uint8_t *sums, const uint8_t *roots)
+{
+    size_t wide = steps(below(of));
+    if (!path_fits(root, of.h[0], step / wide, sums))
+        return 0;
+    return of.trees == 1 || paths_fit(roots, below(of), step % wide, sums + sum_size(of.h[0]), roots + NODE);
+}
+
+static int leaves_accept(struct heights of, const uint8_t *sums, const uint8_t *roots, const uint8_t *message, size_t message_len)
+{
+    if (of.trees == 1)
+        return leaf_accepts(message, message_len, sums);
+    return leaf_accepts(roots, NODE, sums) && leaves_accept(below(of), sums + sum_size(of.h[0]), roots + NODE, message, message_len);
+}
+
+static uint32_t judge(struct heights of, const uint8_t *key, size_t key_len, uint64_t step, const uint8_t *message, size_t message_len, const uint8_t *signature, size_t signature_len)
+{
+    const uint8_t *roots;
+    if (!fit(of))
+        return KES_HEIGHT;
+    if (key_len != KES_KEY_SIZE)
+        return KES_SEED_OR_KEY;
+    if (signature_len != signature_size(of))
+        return KES_LENGTH;
+    if (message_len > KES_MESSAGE_MAX)
+        return KES_TOO_LONG;
+    if (step >= steps(of))
+        return KES_PAST_END;
+    roots = signature + signature_len - NODE * (of.trees - 1);
+    return paths_fit(key, of, step, signature, roots) && leaves_accept(of, signature, roots, message, message_len) ? KES_DONE : KES_NOT_ACCEPTED;
 }
 
 uint32_t plain_verify(uint64_t h1, uint64_t h2, const uint8_t *key, size_t key_len, uint64_t step, const uint8_t *message, size_t message_len, const uint8_t *signature, size_t signature_len)
 {
-    const uint8_t *childs, *root;
-    if (!KES_HEIGHTS_FIT(h1, h2))
-        return KES_HEIGHT;
-    if (key_len != KES_KEY_SIZE)
-        return KES_SEED_OR_KEY;
-    if (signature_len != kes_signature_size(h1, h2))
-        return KES_LENGTH;
-    if (message_len > KES_MESSAGE_MAX)
-        return KES_TOO_LONG;
-    if (step >= kes_steps(h1, h2))
-        return KES_PAST_END;
-    childs = signature + sum_size(h1);
-    root = childs + sum_size(h2);
-    return path_fits(key, h1, step >> h2, signature) && path_fits(root, h2, step % ((size_t)1 << h2), childs)
-        && leaf_accepts(root, NODE, signature) && leaf_accepts(message, message_len, childs) ? KES_DONE : KES_NOT_ACCEPTED;
+    return judge(two(h1, h2), key, key_len, step, message, message_len, signature, signature_len);
+}
+
+uint32_t plain3_verify(uint64_t h1, uint64_t h2, uint64_t h3, const uint8_t *key, size_t key_len, uint64_t step, const uint8_t *message, size_t message_len, const uint8_t *signature, size_t signature_len)
+{
+    return judge(three(h1, h2, h3), key, key_len, step, message, message_len, signature, signature_len);
 }

@@ -93,7 +93,7 @@ def drawing(works):
         "  <title>Time of each call beyond the Ed25519 calls alone</title>",
         f"  <style>{STYLE}</style>",
         box(0, 0, WIDTH, height, "page"), legend(), axis(bottom), *map(row, works, starts),
-        text(16, height - 10, "(6,6): parent and child of heights 6 and 6; fair (24): a cache of 24 entries", "small"),
+        text(16, height - 10, "(6,6): parent and child of heights 6 and 6; (6,6,6): three trees; fair (24): a cache of 24 entries", "small"),
         "</svg>\n",
     ])
 

@@ -1,5 +1,5 @@
 /* A fuzzer's target: a good call with the input laid over it, made as host/test/lib/lent.h says, over both adapters.
- * The fuzzer cannot see into the library. It sees due(), which says the number that document 01 and requests 1, 3, 4, 7 and 8 want, by kes.h's sizes. */
+ * The fuzzer cannot see into the library. It sees due(), which says the number that document 01 and requests 1, 3, 4, 7, 8 and 11 want, by kes.h's sizes. */
 #include <string.h>
 
 #include "../test/lib/lent.h"
@@ -7,9 +7,12 @@
 #include "kes.h"
 
 enum { H1 = 1, H2 = 2, STEPS = 8, N = 3, PLAIN_H = 2, LEAVES = 4 };
+/* of as many steps */
+enum { LEFT = 1, MIDDLE = 1, RIGHT = 1 };
 
 static const uint8_t message[] = "111122223333444412500";
 static uint8_t key[KES_KEY_SIZE], tables[STEPS][KES_TABLE_SIZE(H1, H2)], signatures[STEPS][KES_SIGNATURE_SIZE(H1, H2)];
+static uint8_t key3[KES_KEY_SIZE], tables3[STEPS][KES3_TABLE_SIZE(LEFT, MIDDLE, RIGHT)], signatures3[STEPS][KES3_SIGNATURE_SIZE(LEFT, MIDDLE, RIGHT)];
 static uint8_t fair_key[KES_KEY_SIZE], caches[N][KES_FAIR_CACHE_SIZE(N)], sales[N][KES_FAIR_SIGNATURE_SIZE];
 static uint8_t tree[KES_PLAIN_TABLE_SIZE(PLAIN_H)];
 static struct request request;
@@ -40,26 +43,34 @@ static void make_fair(void)
     }
 }
 
-/* A key's table and signature at each of its steps. */
+/* A made key's table and signature at each of its steps, the first table of which stands there. */
+static void live(uint8_t *first, size_t table_len, uint8_t *signed_first, size_t signature_len, uint8_t *own_key)
+{
+    size_t i;
+    need(kes_read_key(first, table_len, own_key, KES_KEY_SIZE));
+    need(kes_release(first, table_len, 0, STEPS - 1));
+    need(kes_release(first, table_len, 1, STEPS));
+    for (i = 0; i < STEPS; i++) {
+        uint8_t *table = first + i * table_len;
+        if (i > 0) {
+            memcpy(table, table - table_len, table_len);
+            need(kes_move(table, table_len, i, &tally));
+        }
+        need(kes_sign(table, table_len, message, sizeof message, signed_first + i * signature_len, signature_len, &tally));
+    }
+}
+
 int LLVMFuzzerInitialize(int *argc, char ***argv)
 {
-    uint8_t seed[KES_SEED_SIZE] = {0}, plain_seed[KES_SEED_SIZE] = {3};
-    size_t i;
+    uint8_t seed[KES_SEED_SIZE] = {0}, seed3[KES_SEED_SIZE] = {4}, plain_seed[KES_SEED_SIZE] = {3};
     (void)argc, (void)argv;
     lend_start();
     make_fair();
     need(kes_plain_fill(PLAIN_H, plain_seed, sizeof plain_seed, tree, sizeof tree, &tally));
     need(kes_make(H1, H2, seed, sizeof seed, tables[0], sizeof tables[0], &tally));
-    need(kes_read_key(tables[0], sizeof tables[0], key, sizeof key));
-    need(kes_release(tables[0], sizeof tables[0], 0, STEPS - 1));
-    need(kes_release(tables[0], sizeof tables[0], 1, STEPS));
-    for (i = 0; i < STEPS; i++) {
-        if (i > 0) {
-            memcpy(tables[i], tables[i - 1], sizeof tables[i]);
-            need(kes_move(tables[i], sizeof tables[i], i, &tally));
-        }
-        need(kes_sign(tables[i], sizeof tables[i], message, sizeof message, signatures[i], sizeof signatures[i], &tally));
-    }
+    live(tables[0], sizeof tables[0], signatures[0], sizeof signatures[0], key);
+    need(kes3_make(LEFT, MIDDLE, RIGHT, seed3, sizeof seed3, tables3[0], sizeof tables3[0], &tally));
+    live(tables3[0], sizeof tables3[0], signatures3[0], sizeof signatures3[0], key3);
     return 0;
 }
 
@@ -100,22 +111,31 @@ static void lay_good_plain(int op, uint64_t leaf)
         lay(1, message, sizeof message), lay(2, NULL, KES_PLAIN_SIGNATURE_SIZE(PLAIN_H));
 }
 
-/* A good call at a step of the key. */
-static void lay_good(int op, uint64_t step)
+/* What a good call of the key of two trees, or of three, is lent. */
+static void lay_key(int op, uint64_t step, int three)
 {
-    request.op = op, request.h1 = op == RELEASE ? 0 : H1, request.h2 = H2, request.step = op == MOVE || op == CATCH_UP ? step + 1 : op == RELEASE ? STEPS : step;
     if (op == READ_KEY || op == MOVE || op == CATCH_UP || op == RELEASE || op == SIGN)
-        lay(0, tables[step], sizeof tables[step]);
-    if (op == MAKE)
-        lay(0, NULL, KES_SEED_SIZE), lay(1, NULL, sizeof tables[step]);
-    if (op == READ_KEY || op == HASH)
-        lay(1, NULL, KES_KEY_SIZE);
+        lay(0, three ? tables3[step] : tables[step], three ? sizeof tables3[0] : sizeof tables[0]);
+    if (op == MAKE || op == MAKE3)
+        lay(0, NULL, KES_SEED_SIZE), lay(1, NULL, three ? sizeof tables3[0] : sizeof tables[0]);
     if (op == VERIFY)
         lay(0, key, sizeof key), lay(2, signatures[step], sizeof signatures[step]);
-    if (op == SIGN || op == VERIFY)
-        lay(1, message, sizeof message);
+    if (op == VERIFY3)
+        lay(0, key3, sizeof key3), lay(2, signatures3[step], sizeof signatures3[step]);
     if (op == SIGN)
-        lay(2, NULL, sizeof signatures[step]);
+        lay(2, NULL, three ? sizeof signatures3[0] : sizeof signatures[0]);
+}
+
+/* A good call at a step of the key of two trees, or of three. */
+static void lay_good(int op, uint64_t step, int three)
+{
+    request.op = op, request.step = op == MOVE || op == CATCH_UP ? step + 1 : op == RELEASE ? STEPS : step;
+    request.h1 = op == RELEASE ? 0 : three ? LEFT : H1, request.h2 = three ? MIDDLE : H2, request.h3 = three ? RIGHT : 0;
+    lay_key(op, step, three);
+    if (op == READ_KEY || op == HASH)
+        lay(1, NULL, KES_KEY_SIZE);
+    if (op == SIGN || op == VERIFY || op == VERIFY3)
+        lay(1, message, sizeof message);
 }
 
 /* A length somewhat off, or beside the longest message. */
@@ -140,25 +160,44 @@ static int fair_well_formed(const uint8_t *cache, size_t len)
     return len >= 4 && KES_FAIR_FITS(two_bytes(cache)) && len == kes_fair_cache_size(two_bytes(cache)) && two_bytes(cache + 2) < two_bytes(cache);
 }
 
+/* Byte 2 says how many trees there are. What it says wrongly has no size and no step. */
+static int two(const uint8_t *table) { return table[2] == 1 && table[3] == 0; }
+static int three(const uint8_t *table) { return table[2] == 2; }
+
+static size_t table_size(const uint8_t *table)
+{
+    return two(table) ? kes_table_size(table[0], table[1]) : three(table) ? kes3_table_size(table[0], table[1], table[3]) : 0;
+}
+
+static size_t signature_size(const uint8_t *table)
+{
+    return two(table) ? kes_signature_size(table[0], table[1]) : kes3_signature_size(table[0], table[1], table[3]);
+}
+
+static uint64_t steps(const uint8_t *table)
+{
+    return two(table) ? kes_steps(table[0], table[1]) : three(table) ? kes3_steps(table[0], table[1], table[3]) : 0;
+}
+
 static int well_formed(const uint8_t *table, size_t len)
 {
-    return len >= 16 && KES_HEIGHTS_FIT(table[0], table[1]) && table[2] == 1 && table[3] == 0 && len == kes_table_size(table[0], table[1])
-        && step_of(table) < kes_steps(table[0], table[1]) && number_of(table, 0) <= kes_steps(table[0], table[1]) && number_of(table, 1) <= kes_steps(table[0], table[1]);
+    return len >= 16 && len == table_size(table) && step_of(table) < steps(table) && number_of(table, 0) <= steps(table) && number_of(table, 1) <= steps(table);
 }
 
 static uint32_t due_to_make(const struct request *r)
 {
-    if (!KES_HEIGHTS_FIT(r->h1, r->h2))
+    size_t size = r->op == MAKE ? kes_table_size(r->h1, r->h2) : kes3_table_size(r->h1, r->h2, r->h3);
+    if (size == 0)
         return KES_HEIGHT;
     if (r->len[0] != KES_SEED_SIZE)
         return KES_SEED_OR_KEY;
-    return r->len[1] != kes_table_size(r->h1, r->h2) ? KES_LENGTH : KES_DONE;
+    return r->len[1] != size ? KES_LENGTH : KES_DONE;
 }
 
 static uint32_t due_to_move(const struct request *r)
 {
     const uint8_t *table = r->bytes[0];
-    if (r->step >= kes_steps(table[0], table[1]))
+    if (r->step >= steps(table))
         return KES_PAST_END;
     if (r->step <= step_of(table))
         return r->op == MOVE ? KES_NOT_LATER : KES_DONE;
@@ -170,7 +209,7 @@ static uint32_t due_to_release(const struct request *r)
     const uint8_t *table = r->bytes[0];
     if (r->h1 > 1)
         return KES_WINDOW;
-    return r->step < number_of(table, r->h1) || r->step > kes_steps(table[0], table[1]) ? KES_LOWERED : KES_DONE;
+    return r->step < number_of(table, r->h1) || r->step > steps(table) ? KES_LOWERED : KES_DONE;
 }
 
 static uint32_t due_to_sign(const struct request *r)
@@ -178,7 +217,7 @@ static uint32_t due_to_sign(const struct request *r)
     const uint8_t *table = r->bytes[0];
     if (r->len[1] > KES_MESSAGE_MAX)
         return KES_TOO_LONG;
-    return r->len[2] != kes_signature_size(table[0], table[1]) ? KES_LENGTH : KES_DONE;
+    return r->len[2] != signature_size(table) ? KES_LENGTH : KES_DONE;
 }
 
 static uint32_t due_to_hash(const struct request *r)
@@ -191,21 +230,26 @@ static uint32_t due_to_hash(const struct request *r)
 /* Only what an honest signer signed is accepted. */
 static int honest(const struct request *r)
 {
-    return r->h1 == H1 && r->h2 == H2 && r->len[1] == sizeof message && memcmp(r->bytes[1], message, sizeof message) == 0
-        && memcmp(r->bytes[0], key, sizeof key) == 0 && memcmp(r->bytes[2], signatures[r->step], sizeof signatures[0]) == 0;
+    if (r->len[1] != sizeof message || memcmp(r->bytes[1], message, sizeof message) != 0)
+        return 0;
+    if (r->op == VERIFY)
+        return r->h1 == H1 && r->h2 == H2 && memcmp(r->bytes[0], key, sizeof key) == 0 && memcmp(r->bytes[2], signatures[r->step], sizeof signatures[0]) == 0;
+    return r->h1 == LEFT && r->h2 == MIDDLE && r->h3 == RIGHT && memcmp(r->bytes[0], key3, sizeof key3) == 0
+        && memcmp(r->bytes[2], signatures3[r->step], sizeof signatures3[0]) == 0;
 }
 
 static uint32_t due_to_verify(const struct request *r)
 {
-    if (!KES_HEIGHTS_FIT(r->h1, r->h2))
+    size_t size = r->op == VERIFY ? kes_signature_size(r->h1, r->h2) : kes3_signature_size(r->h1, r->h2, r->h3);
+    if (size == 0)
         return KES_HEIGHT;
     if (r->len[0] != KES_KEY_SIZE)
         return KES_SEED_OR_KEY;
-    if (r->len[2] != kes_signature_size(r->h1, r->h2))
+    if (r->len[2] != size)
         return KES_LENGTH;
     if (r->len[1] > KES_MESSAGE_MAX)
         return KES_TOO_LONG;
-    if (r->step >= kes_steps(r->h1, r->h2))
+    if (r->step >= (r->op == VERIFY ? kes_steps(r->h1, r->h2) : kes3_steps(r->h1, r->h2, r->h3)))
         return KES_PAST_END;
     return honest(r) ? KES_DONE : KES_NOT_ACCEPTED;
 }
@@ -290,9 +334,9 @@ static uint32_t due_if_answered(const struct request *r)
         return plain_due(r);
     if (r->op >= FAIR_MAKE)
         return fair_due(r);
-    if (r->op == MAKE)
+    if (r->op == MAKE || r->op == MAKE3)
         return due_to_make(r);
-    if (r->op == VERIFY)
+    if (r->op == VERIFY || r->op == VERIFY3)
         return due_to_verify(r);
     if (r->op == HASH)
         return due_to_hash(r);
@@ -308,17 +352,33 @@ static uint32_t due_if_answered(const struct request *r)
 /* The keys of a half that is entered, where two steps part. */
 static uint64_t half(uint64_t a, uint64_t b) { return (uint64_t)1 << (63 - __builtin_clzll(a ^ b)); }
 
+/* How often trees are asked for of which the first enters a half and all below are new: that half, and each other's leaves and root. */
+static uint64_t moved(uint64_t from, uint64_t to, const uint64_t *heights, size_t trees)
+{
+    uint64_t inner = 0, all = 0;
+    size_t i;
+    for (i = 1; i < trees; i++)
+        inner += heights[i], all += ((uint64_t)1 << heights[i]) + 1;
+    if (trees > 1 && from >> inner == to >> inner)
+        return moved(from & (((uint64_t)1 << inner) - 1), to & (((uint64_t)1 << inner) - 1), heights + 1, trees - 1);
+    return half(from >> inner, to >> inner) + all;
+}
+
+static uint64_t askings_to_move(const struct request *r)
+{
+    const uint8_t *table = r->bytes[0];
+    const uint64_t heights[3] = {table[0], table[1], table[3]};
+    return r->step <= step_of(table) ? 0 : moved(step_of(table), r->step, heights, two(table) ? 2 : 3);
+}
+
 /* How often a good call asks Ed25519 for a key or a signature. */
 static uint64_t askings(const struct request *r)
 {
-    uint64_t from = step_of(r->bytes[0]), h2 = r->bytes[0][1];
     switch (r->op) {
     case MAKE: return ((uint64_t)1 << r->h1) + ((uint64_t)1 << r->h2) + 1;
+    case MAKE3: return ((uint64_t)1 << r->h1) + ((uint64_t)1 << r->h2) + ((uint64_t)1 << r->h3) + 2;
     case CATCH_UP:
-        if (r->step <= from)
-            return 0;
-        /* fall through */
-    case MOVE: return from >> h2 == r->step >> h2 ? half(from, r->step) : half(from >> h2, r->step >> h2) + ((uint64_t)1 << h2) + 1;
+    case MOVE: return askings_to_move(r);
     case FAIR_MAKE: return 2 * r->h1 + 1;
     case PLAIN_FILL: return (uint64_t)1 << r->h1;
     default: return r->op == SIGN || r->op == FAIR_SIGN || r->op == PLAIN_SIGN;
@@ -335,6 +395,13 @@ static uint32_t due(const struct request *r)
     return number;
 }
 
+/* A good call by the key of two trees, or of three where the byte is odd, or the call has no other. */
+static void lay_step(int op, uint8_t byte)
+{
+    int odd = op == MAKE3 || op == VERIFY3 || (op != MAKE && op != VERIFY && byte % 2 == 1);
+    lay_good(op, byte / 2 % (op == MOVE ? STEPS - 1 : STEPS), odd);
+}
+
 int LLVMFuzzerTestOneInput(const uint8_t *data, size_t size)
 {
     struct input in = {data, size};
@@ -346,8 +413,8 @@ int LLVMFuzzerTestOneInput(const uint8_t *data, size_t size)
     else if (op >= FAIR_MAKE)
         lay_good_fair(op, next(&in) % (op == FAIR_MOVE ? N - 1 : N));
     else
-        lay_good(op, next(&in) % (op == MOVE ? STEPS - 1 : STEPS));
-    request.h1 ^= wide(&in), request.h2 ^= wide(&in), request.step ^= wide(&in);
+        lay_step(op, next(&in));
+    request.h1 ^= wide(&in), request.h2 ^= wide(&in), request.h3 ^= wide(&in), request.step ^= wide(&in);
     request.tally = 0 - wide(&in), request.every = next(&in) % 16;
     request.silent = request.every == 0 ? 0 : next(&in) % request.every;
     for (i = 0; i < LENT; i++)

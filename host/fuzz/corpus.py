@@ -12,24 +12,24 @@ SCHEME = kes.Scheme(MODULE)
 
 
 @functools.lru_cache(maxsize=2**10)
-def table(h1, h2, seed, step):
+def table(heights, seed, step):
     """The table of an honest key at a step, where both windows have released all."""
-    made = bytearray(kes.table_size(h1, h2))
-    SCHEME.make(h1, h2, bytearray([seed]) * 32, made)
+    made = bytearray(kes.table_size(*heights))
+    SCHEME.make_with(heights, bytearray([seed]) * 32, made)
     SCHEME.free(made)
     SCHEME.move(made, step)
     return bytes(made)
 
 
-def key(h1, h2, seed):
+def key(heights, seed):
     out = bytearray(32)
-    SCHEME.read_key(table(h1, h2, seed, 0), out)
+    SCHEME.read_key(table(heights, seed, 0), out)
     return bytes(out)
 
 
-def signature(h1, h2, seed, step, message):
-    out = bytearray(kes.signature_size(h1, h2))
-    SCHEME.sign(table(h1, h2, seed, step), message[: kes.LONGEST], out)
+def signature(heights, seed, step, message):
+    out = bytearray(kes.signature_size(*heights))
+    SCHEME.sign(table(heights, seed, step), message[: kes.LONGEST], out)
     return bytes(out)
 
 
@@ -85,9 +85,10 @@ def over(draw, h, t, message):
     return vk + signed + b"".join(witnesses), SCHEME.climb(kes.H(vk), witnesses, t)
 
 
-def chosen(draw, h1, h2, step, message):
-    """A product signature whose paths fit, and its verification key."""
-    t1, t2 = divmod(step, 2**h2)
-    childs, r2 = over(draw, h2, t2, message)
-    parents, root = over(draw, h1, t1, r2)
-    return parents + childs + r2, root
+def chosen(draw, heights, step, message):
+    """A signature of two trees or three whose paths fit, and its verification key: each tree from the last upwards signs the root below."""
+    sums, roots = [], [message]
+    for h, t in zip(heights[::-1], kes.steps_of(heights, step)[::-1]):
+        signed, root = over(draw, h, t, roots[0])
+        sums, roots = [signed, *sums], [root, *roots]
+    return b"".join(sums + roots[1:-1]), roots[0]

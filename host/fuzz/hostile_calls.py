@@ -17,10 +17,10 @@ import kes
 import plain
 import plain_calls
 import sodium
-from lib.library import CATCH_UP, FAIR_MAKE, FAIR_MOVE, FAIR_SIGN, HASH, MAKE, MOST, MOVE, PLAIN_FILL, READ_KEY, RELEASE, SIGN, VERIFY, Ended, Library
+from lib.library import CATCH_UP, FAIR_MAKE, FAIR_MOVE, FAIR_SIGN, HASH, MAKE, MAKE3, MOST, MOVE, PLAIN_FILL, READ_KEY, RELEASE, SIGN, VERIFY, VERIFY3, Ended, Library
 from lib.modelled import NAMES, Model, show
 from mutate import edge, spoiled
-from planted import FAIR, HOSTILE, PLAIN, PLANTED, WINDOWS
+from planted import FAIR, HOSTILE, PLAIN, PLANTED, TRIPLE, WINDOWS
 from rounds import Different, NoAnswer, main
 from silences import FAIR_SILENCES, PLAIN_SILENCES, SILENCES
 
@@ -29,12 +29,12 @@ SIZES = [0, 1, 31, 32, 33, 127, 128, 129, kes.LONGEST - 1, kes.LONGEST, kes.LONG
 CHEAP, DEAR = 64, 2 ** (kes.TALLEST + 1)
 
 
-def small(draw):
-    return draw.choice([0, 1, 2, 3]), draw.choice([0, 1, 2, 3])
+def small(draw, trees):
+    return tuple(draw.choice([0, 1, 2, 3] if trees == 2 else [0, 1, 1, 2]) for _ in range(trees))
 
 
-def any_height(draw):
-    return draw.randrange(kes.TALLEST + 1), draw.randrange(kes.TALLEST + 1)
+def any_height(draw, trees):
+    return tuple(draw.randrange(kes.LIMITS[trees] + 1) for _ in range(trees))
 
 
 def some_message(draw):
@@ -43,20 +43,35 @@ def some_message(draw):
 
 def some_table(draw):
     """An honest table, one whose header says another step, or any bytes behind a good header."""
-    way = draw.random()
-    h1, h2 = small(draw) if way < 0.7 else any_height(draw)
-    step, seed = draw.randrange(kes.steps(h1, h2)), draw.randrange(4)
+    way, trees = draw.random(), draw.choice([2, 3])
+    heights = small(draw, trees) if way < 0.7 else any_height(draw, trees)
+    end, seed = kes.steps(*heights), draw.randrange(4)
+    step = draw.randrange(end)
     if way < 0.6:
-        return corpus.table(h1, h2, seed, step)
+        return corpus.table(heights, seed, step)
     if way < 0.7:
-        return kes.header(h1, h2, step) + corpus.table(h1, h2, seed, draw.randrange(kes.steps(h1, h2)))[kes.HEADER :]
-    numbers = [draw.choice([kes.steps(h1, h2), draw.randrange(kes.steps(h1, h2) + 1)]) for _ in range(2)]
-    return kes.header(h1, h2, step, *numbers) + draw.randbytes(kes.table_size(h1, h2) - kes.HEADER)
+        return kes.header(heights, step) + corpus.table(heights, seed, draw.randrange(end))[kes.HEADER :]
+    numbers = [draw.choice([end, draw.randrange(end + 1)]) for _ in range(2)]
+    return kes.header(heights, step, *numbers) + draw.randbytes(kes.part_size(*heights))
+
+
+def called(op, heights, step, buffers):
+    """A request; the third height, or 0, comes last."""
+    h1, h2, h3 = (*heights, 0)[:3]
+    return [op, h1, h2, step, buffers, h3]
+
+
+def made(draw, op, trees):
+    heights = small(draw, trees) if draw.random() < 0.9 else any_height(draw, trees)
+    return called(op, heights, 0, [bytes([draw.randrange(4)]) * 32, draw.randbytes(kes.table_size(*heights)), b""])
 
 
 def make(draw):
-    h1, h2 = small(draw) if draw.random() < 0.9 else any_height(draw)
-    return [MAKE, h1, h2, 0, [bytes([draw.randrange(4)]) * 32, draw.randbytes(kes.table_size(h1, h2)), b""]]
+    return made(draw, MAKE, 2)
+
+
+def make3(draw):
+    return made(draw, MAKE3, 3)
 
 
 def read_key(draw):
@@ -67,48 +82,59 @@ def move(draw):
     """To a later step, often one that is near: the taller the tree, the nearer must it be for the move to be cheap. Or to the last that both
     windows have released."""
     table = some_table(draw)
-    h1, h2, now = kes.read_header(table)
+    heights, now = kes.read_header(table)
     near = now + draw.randrange(1, 5)
-    far = draw.randrange(now, kes.steps(h1, h2))
+    far = draw.randrange(now, kes.steps(*heights))
     return [MOVE, 0, 0, draw.choice([near, far, min(kes.numbers_in(table))]), [table, b"", b""]]
 
 
 def catch_up(draw):
     """As a move; at times to a step that is not later."""
     request = move(draw)
-    now = kes.read_header(request[4][0])[2]
+    now = kes.read_header(request[4][0])[1]
     return [CATCH_UP, 0, 0, draw.choice([request[3], request[3], now, draw.randrange(now + 1)]), request[4]]
 
 
 def release(draw):
     table = some_table(draw)
-    end = kes.steps(*table[:2])
+    end = kes.steps(*kes.heights_in(table))
     stood = draw.choice(kes.numbers_in(table))
     return [RELEASE, draw.choice([0, 0, 1, 1, 2]), 0, draw.choice([stood, max(0, stood - 1), end, end + 1, draw.randrange(end + 1)]), [table, b"", b""]]
 
 
 def sign(draw):
+    """At times into a byte too many."""
     table = some_table(draw)
-    return [SIGN, 0, 0, 0, [table, some_message(draw), draw.randbytes(kes.signature_size(*table[:2]))]]
+    size = kes.signature_size(*kes.heights_in(table)) + (draw.random() < 0.1)
+    return [SIGN, 0, 0, 0, [table, some_message(draw), draw.randbytes(size)]]
 
 
-def signed(draw, step, message, h1, h2):
-    """An honest signature and its key; at times with the parent's half of another step."""
+def signed(draw, step, message, heights):
+    """An honest signature and its key; at times with one of its sum signatures, or roots, of another step."""
     seed = draw.randrange(4)
-    signature = corpus.signature(h1, h2, seed, step, message)
+    signature = corpus.signature(heights, seed, step, message)
     if draw.random() < 0.2:
-        half = kes.sum_size(h1)
-        signature = corpus.signature(h1, h2, seed, draw.randrange(kes.steps(h1, h2)), b"")[:half] + signature[half:]
-    return signature, corpus.key(h1, h2, seed)
+        mixed = [*sum(corpus.SCHEME.taken(signature, heights), [])]
+        other = [*sum(corpus.SCHEME.taken(corpus.signature(heights, seed, draw.randrange(kes.steps(*heights)), b""), heights), [])]
+        at = draw.randrange(len(mixed))
+        signature = b"".join(mixed[:at] + other[at : at + 1] + mixed[at + 1 :])
+    return signature, corpus.key(heights, seed)
+
+
+def verified(draw, op, trees):
+    message, heights = some_message(draw), draw.choice([small, any_height])(draw, trees)
+    step = draw.randrange(kes.steps(*heights))
+    honest = max(heights) <= 3 and draw.random() < 0.9
+    signature, key = signed(draw, step, message, heights) if honest else corpus.chosen(draw, heights, step, message)
+    return called(op, heights, step, [key, message, signature])
 
 
 def verify(draw):
-    message = some_message(draw)
-    h1, h2 = heights = draw.choice([small, any_height])(draw)
-    step = draw.randrange(kes.steps(h1, h2))
-    honest = max(heights) <= 3 and draw.random() < 0.9
-    signature, key = signed(draw, step, message, h1, h2) if honest else corpus.chosen(draw, h1, h2, step, message)
-    return [VERIFY, h1, h2, step, [key, message, signature]]
+    return verified(draw, VERIFY, 2)
+
+
+def verify3(draw):
+    return verified(draw, VERIFY3, 3)
 
 
 def hashed(draw):
@@ -128,17 +154,19 @@ def plain_sign(draw):
 
 
 # in the order of their numbers: the calls, how often each is drawn, and how many buffers it is lent
-CALLS = [make, read_key, move, catch_up, release, sign, verify, hashed, fair_calls.make, fair_calls.move, fair_sign, fair_verify]
-WEIGHTS, BUFFERS = [2, 1, 2, 2, 2, 2, 3, 1, 1, 1, 1, 2], [2, 2, 1, 1, 1, 3, 3, 2, 4, 1, 3, 3]
+CALLS = [make, read_key, move, catch_up, release, sign, verify, make3, verify3, hashed, fair_calls.make, fair_calls.move, fair_sign, fair_verify]
+WEIGHTS, BUFFERS = [2, 1, 4, 3, 2, 2, 3, 2, 4, 1, 1, 1, 1, 2], [2, 2, 1, 1, 1, 3, 3, 2, 3, 2, 4, 1, 3, 3]
 CALLS += [plain_calls.fill, plain_calls.root, plain_calls.path, plain_sign]
 WEIGHTS, BUFFERS = WEIGHTS + [1, 1, 1, 1], BUFFERS + [2, 2, 2, 3]
 
 
 def heights_spoiled(draw, table):
-    """Another height in the header; mostly with a length that fits it, so that the same bytes are read otherwise."""
-    heights = list(table[:2])
-    heights[draw.randrange(2)] = draw.choice([0, 1, 2, 3, kes.TALLEST, kes.TALLEST + 1, 255])
-    table = bytes(heights) + table[2:]
+    """Another height in the header, or another number of trees; mostly with a length that fits it, so that the same bytes are read otherwise."""
+    first = bytearray(table[:4])
+    first[draw.choice([0, 1, 3])] = draw.choice([0, 1, 2, 3, 8, 9, kes.TALLEST, kes.TALLEST + 1, 255])
+    first[2:] = draw.choice([first[2:], first[2:], bytes([2, first[3]]), b"\1\0"])
+    heights = (first[0], first[1], first[3])[: 1 + first[2]] if first[2] in (1, 2) else (0, 0)
+    table = bytes(first) + table[4:]
     if max(heights) > kes.TALLEST or draw.random() < 0.3:
         return table
     size = kes.table_size(*heights)
@@ -152,11 +180,11 @@ def header_spoiled(draw, request):
         request[4][0] = fair_calls.header_spoiled(draw, table)
     if request[0] not in (READ_KEY, MOVE, CATCH_UP, RELEASE, SIGN) or len(table) < kes.HEADER:
         return
-    end = kes.steps(*[min(h, kes.TALLEST) for h in table[:2]])
+    end = kes.steps(*(kes.heights_in(table) or (0, 0)))
     step = edge(draw, int.from_bytes(table[4:8], "little"), end) % 2**32
     request[4][0] = draw.choice([
         heights_spoiled(draw, table), heights_spoiled(draw, table),
-        table[:2] + draw.choice([b"\0\0", b"\2\0", b"\1\1", b"\xff\xff"]) + table[4:],
+        table[:2] + draw.choice([b"\0\0", b"\1\0", b"\2\0", b"\3\0", b"\1\1", b"\2\1", b"\xff\xff"]) + table[4:],
         table[:4] + step.to_bytes(4, "little") + table[8:],
         table[:8] + step.to_bytes(4, "little") + table[12:],
         table[:12] + step.to_bytes(4, "little") + table[16:],
@@ -164,7 +192,7 @@ def header_spoiled(draw, request):
 
 
 def number_spoiled(draw, request):
-    at = draw.choice([1, 2, 3])
+    at = draw.choice([1, 2, 3, 5] if len(request) > 5 else [1, 2, 3])
     if request[0] >= PLAIN_FILL:
         request[at] = edge(draw, request[at], 2 ** min(request[1], plain.HIGHEST) if at == 3 else plain.HIGHEST + 1)
         return
@@ -173,8 +201,9 @@ def number_spoiled(draw, request):
         request[at] = edge(draw, request[at], n if at == 3 else fair.MOST + 1)
         return
     found = kes.read_header(request[4][0]) if request[0] in (MOVE, CATCH_UP, RELEASE) else None
-    h1, h2, now = found or (min(request[1], kes.TALLEST), min(request[2], kes.TALLEST), request[3])
-    request[at] = edge(draw, now, kes.steps(h1, h2)) if at == 3 else edge(draw, request[at], kes.TALLEST + 1)
+    limit = kes.TALLEST3 if request[0] in (MAKE3, VERIFY3) else kes.TALLEST
+    heights, now = found or ([min(h, limit) for h in request[1:3] + request[5:]], request[3])
+    request[at] = edge(draw, now, kes.steps(*heights)) if at == 3 else edge(draw, request[at], limit + 1)
 
 
 def buffer_spoiled(draw, request):
@@ -188,20 +217,24 @@ def spoil(draw, request):
 
 def grown(request):
     """How many key pairs a call grows at most."""
-    op, h1, h2, step, (first, *_) = request
-    found = kes.read_header(first)
+    op, h1, h2, step, (first, *_), *third = request
+    found, heights = kes.read_header(first), (h1, h2) if op == MAKE else (h1, h2, *third)
     if op == FAIR_MAKE and fair.fits(h1):
         return h1 + 1
     if op == PLAIN_FILL and h1 <= plain.HIGHEST:
         return 2**h1
-    if op == MAKE and max(h1, h2) <= kes.TALLEST:
-        return 2**h1 + 2**h2
-    if op in (MOVE, CATCH_UP) and found and found[2] < step < kes.steps(*found[:2]):
-        h1, h2, now = found
-        if now >> h2 == step >> h2:
-            return 2 ** kes.highest_difference(now, step)
-        return 2 ** kes.highest_difference(now >> h2, step >> h2) + 2**h2
+    if op in (MAKE, MAKE3) and kes.fit(heights):
+        return sum(2**h for h in heights)
+    if op in (MOVE, CATCH_UP) and found and found[1] < step < kes.steps(*found[0]):
+        return moved_grows(*found, step)
     return 0
+
+
+def moved_grows(heights, now, step):
+    """The half that the topmost tree that moves enters, and all trees below."""
+    steps = list(zip(kes.steps_of(heights, now), kes.steps_of(heights, step)))
+    top = next(n for n, (a, b) in enumerate(steps) if a != b)
+    return 2 ** kes.highest_difference(*steps[top]) + sum(2**h for h in heights[top + 1 :])
 
 
 def some_module(draw):
@@ -220,7 +253,7 @@ def hostile(draw):
         for _ in range(draw.choice([0, 0, 1, 1, 1, 2, 3])):
             spoil(draw, request)
         if grown(request) <= limit:
-            return [*request, some_module(draw)]
+            return [*request[:5], some_module(draw), *request[5:]]
 
 
 def told(outcome):
@@ -249,7 +282,7 @@ class Comparison:
 if __name__ == "__main__":
     with tempfile.TemporaryDirectory() as folder:
         compared = functools.partial(Comparison, Library(folder))
-        errors = [(error, {"scheme": error}) for error in PLANTED + HOSTILE + WINDOWS + SILENCES]
+        errors = [(error, {"scheme": error}) for error in PLANTED + HOSTILE + WINDOWS + TRIPLE + SILENCES]
         errors += [(error, {"cache": error}) for error in FAIR + FAIR_SILENCES]
         errors += [(error, {"engine": error}) for error in PLAIN + PLAIN_SILENCES]
         main(__file__, compared, {error.__doc__.rstrip("."): functools.partial(compared, **planted) for error, planted in errors})

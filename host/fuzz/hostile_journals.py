@@ -40,7 +40,7 @@ def chosen(draw):
     """A journal of one line, at any heights, under a key that was chosen to fit the line's signature."""
     word, h1, h2 = draw.choice(WORDS), draw.randrange(kes.TALLEST + 1), draw.randrange(kes.TALLEST + 1)
     step, card, amount = draw.randrange(kes.steps(h1, h2)), b"%016d" % draw.randrange(10**16), b"%d" % draw.randrange(1, 2_000_001)
-    signature, key = corpus.chosen(draw, h1, h2, step, message(word, card, b"1", amount))
+    signature, key = corpus.chosen(draw, (h1, h2), step, message(word, card, b"1", amount))
     head = b"%s\t%d\t%d\t%s\n" % (word, h1, h2, key.hex().encode())
     return head + b"%d\t%s\t1\t%s\t%s\n" % (step, card, amount, signature.hex().encode())
 

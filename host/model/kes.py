@@ -1,7 +1,8 @@
-"""The evolving key, written a second time from the text of document 01 and requests 1, 4 and 8, sharing no code: the other side of every comparison.
+"""The evolving key, written a second time from the text of document 01 and requests 1, 4, 8 and 11, sharing no code: the other side of every comparison.
 
-Inside, a tree, a signature and a table are bytes. The calls take bytearrays and write to them as 01 says, so that what stands in
-them afterwards is part of the answer. Each rule is a method of its own: a test that plants an error overrides one.
+Inside, a tree, a signature and a table are bytes, and a key is a list of heights, two or three. The calls take bytearrays and write to
+them as 01 says, so that what stands in them afterwards is part of the answer. Each rule is a method of its own: a test that plants an
+error overrides one.
 """
 import functools
 import hashlib
@@ -10,7 +11,9 @@ DONE, HEIGHT, SEED_OR_KEY, TABLE, LENGTH, NOT_LATER, PAST_END, TOO_LONG, ENTRIES
 FULL, CARD_OR_AMOUNT, COUNT_FULL = 13, 14, 15
 NOT_ACCEPTED = 100
 
-TALLEST = 12
+# the limit of heights, by how many trees there are: 01, and request 11
+TALLEST, TALLEST3 = 12, 8
+LIMITS = {2: TALLEST, 3: TALLEST3}
 LONGEST = 4096
 ZEROS = bytes(32)
 # request 8
@@ -45,24 +48,47 @@ def sum_size(h):
     return 96 + 32 * h
 
 
-def steps(h1, h2):
-    """Rule 7: T."""
-    return 2 ** (h1 + h2)
+def steps(*heights):
+    """Rule 7, and request 11: T."""
+    return 2 ** sum(heights)
 
 
-def signature_size(h1, h2):
-    """Rule 8."""
-    return sum_size(h1) + sum_size(h2) + 32
+def split(heights, t):
+    """Rule 7, and t = i Tj Tk + j Tk + k of request 11: the top tree's step, and the step of what is below."""
+    return divmod(t, steps(*heights[1:]))
 
 
-def table_size(h1, h2):
-    return HEADER + tree_size(h1) + sum_size(h1) + 32 + tree_size(h2)
+def steps_of(heights, t):
+    """The step of each tree."""
+    if len(heights) == 1:
+        return [t]
+    i, inner = split(heights, t)
+    return [i, *steps_of(heights[1:], inner)]
 
 
-def header(h1, h2, step, *numbers):
-    """Request 8: step, and for window 0 and 1 the first step that it still needs; where none are given, both have released all."""
-    numbers = numbers or (steps(h1, h2), steps(h1, h2))
-    return bytes([h1, h2, 1, 0]) + b"".join(n.to_bytes(4, "little") for n in (step, *numbers))
+def signature_size(*heights):
+    """Rule 8, and request 11: the sum signatures, then the roots below the top one."""
+    return sum(map(sum_size, heights)) + 32 * (len(heights) - 1)
+
+
+def part_size(*heights):
+    """The trees, and behind each but the last its sum signature and the next seed."""
+    return sum(tree_size(h) + sum_size(h) + 32 for h in heights[:-1]) + tree_size(heights[-1])
+
+
+def table_size(*heights):
+    return HEADER + part_size(*heights)
+
+
+def fit(heights):
+    return max(heights) <= LIMITS[len(heights)]
+
+
+def header(heights, step, *numbers):
+    """Requests 8 and 11: step, and for window 0 and 1 the first step that it still needs; where none are given, both have released all."""
+    h1, h2, *third = heights
+    numbers = numbers or (steps(*heights), steps(*heights))
+    return bytes([h1, h2, 2, *third] if third else [h1, h2, 1, 0]) + b"".join(n.to_bytes(4, "little") for n in (step, *numbers))
 
 
 def numbers_in(table):
@@ -70,14 +96,20 @@ def numbers_in(table):
     return [int.from_bytes(table[at : at + 4], "little") for at in (8, 12)]
 
 
+def heights_in(table):
+    """Byte 2 says how many trees there are: two and byte 3 zero, or three and byte 3 the third height. None where it says neither."""
+    h1, h2, kind, third = table[:4]
+    heights = (h1, h2, third) if kind == 2 else (h1, h2) if (kind, third) == (1, 0) else None
+    return heights if heights and fit(heights) else None
+
+
 def read_header(table):
-    """The two heights and the step, or None where the number is 3."""
-    if len(table) < HEADER or max(table[:2]) > TALLEST or table[2:4] != b"\1\0":
+    """The heights and the step, or None where the number is 3."""
+    heights = heights_in(table) if len(table) >= HEADER else None
+    if heights is None or len(table) != table_size(*heights):
         return None
-    h1, h2, step = table[0], table[1], int.from_bytes(table[4:8], "little")
-    if len(table) != table_size(h1, h2) or step >= steps(h1, h2) or max(numbers_in(table)) > steps(h1, h2):
-        return None
-    return h1, h2, step
+    step = int.from_bytes(table[4:8], "little")
+    return (heights, step) if step < steps(*heights) and max(numbers_in(table)) <= steps(*heights) else None
 
 
 def cut(data, *sizes):
@@ -89,9 +121,9 @@ def cut(data, *sizes):
     return parts
 
 
-def read_body(table, h1, h2):
-    """The parent tree, the parent's sum signature, the next seed, the child tree."""
-    return cut(table[HEADER:], tree_size(h1), sum_size(h1), 32, tree_size(h2))
+def seam(part, heights):
+    """The top tree of a part, its sum signature, the next seed, and the part below."""
+    return cut(part, tree_size(heights[0]), sum_size(heights[0]), 32, part_size(*heights[1:]))
 
 
 def hash_call(message, out):
@@ -233,10 +265,10 @@ class Scheme:
         k = highest_difference(a, b) + 1
         return 2 ** (k - 1) + self.count_move(0, b % 2 ** (k - 1))
 
-    # The product key: rules 7 and 8.
+    # A part of the key, of one tree or more: rules 7 and 8, and request 11 by the same rules at each seam.
 
     def chain(self, stored, parent_steps):
-        """Rule 7: the child's seed and the seed that is then stored, after so many parent steps."""
+        """Rule 7: the seed of what is below and the seed that is then stored, after so many steps of the tree above."""
         for _ in range(parent_steps):
             child, stored = left(stored), right(stored)
         return child, stored
@@ -246,35 +278,118 @@ class Scheme:
         levels, _, vk = cut(tree, 96 * h, 32, 32)
         return levels + ZEROS + vk
 
-    def body(self, h1, t1, parent, next_seed, h2, child):
-        """Rule 7: the parent leaf signs the child's root, and its secret goes."""
-        signature = self.sum_signature(parent, h1, t1, self.root(child, h2))
-        return self.without_secret(parent, h1) + signature + next_seed + child
+    def seal(self, heights, t, tree, next_seed, below):
+        """Rule 7: the leaf signs the root of what is below, and its secret goes."""
+        signature = self.sum_signature(tree, heights[0], t, self.root(below, heights[1]))
+        return self.without_secret(tree, heights[0]) + signature + next_seed + below
+
+    def chain_from(self, seed):
+        """Rule 7, and request 11 of a replaced middle tree: where the chain below a new tree begins."""
+        return right(seed)
+
+    def part_at(self, seed, heights, t):
+        """The part that grows from a seed, at step t: its tree from the left of the seed."""
+        if len(heights) == 1:
+            return self.tree_at(seed, heights[0], t)
+        i, inner = split(heights, t)
+        child_seed, next_seed = self.chain(self.chain_from(seed), i + 1)
+        tree, below = self.tree_at(left(seed), heights[0], i), self.part_at(child_seed, heights[1:], inner)
+        return self.seal(heights, i, tree, next_seed, below)
+
+    def moved_part(self, part, heights, a, b):
+        """Moved forward, whatever its bytes. Where the top tree's step stays, so does all of its seam."""
+        if len(heights) == 1:
+            return self.moved(part, heights[0], a, b)
+        (i, inner), (new_i, new_inner) = split(heights, a), split(heights, b)
+        tree, signature, stored, below = seam(part, heights)
+        if i == new_i:
+            return tree + signature + stored + self.moved_part(below, heights[1:], inner, new_inner)
+        return self.crossed(heights, tree, i, new_i, stored, new_inner)
+
+    def crossed(self, heights, tree, i, new_i, stored, inner):
+        """The top tree moves, and what is below grows anew, at its step."""
+        child_seed, next_seed = self.chain(stored, new_i - i)
+        tree, below = self.moved(tree, heights[0], i, new_i), self.part_at(child_seed, heights[1:], inner)
+        return self.seal(heights, new_i, tree, next_seed, below)
+
+    def count_grown(self, heights, t):
+        """A new part at step t: each tree new, and moved."""
+        if len(heights) == 1:
+            return self.count_new(heights[0]) + self.count_move(0, t)
+        i, inner = split(heights, t)
+        return self.count_new(heights[0]) + self.count_move(0, i) + self.count_grown(heights[1:], inner)
+
+    def count_moved(self, heights, a, b):
+        if len(heights) == 1:
+            return self.count_move(a, b)
+        (i, inner), (new_i, new_inner) = split(heights, a), split(heights, b)
+        if i == new_i:
+            return self.count_moved(heights[1:], inner, new_inner)
+        return self.count_move(i, new_i) + self.count_grown(heights[1:], new_inner)
+
+    def signed(self, part, heights, t, message):
+        """Rule 8: the sum signatures, the stored ones and the last tree's over the message; and the roots below the top one."""
+        if len(heights) == 1:
+            return [self.sum_signature(part, heights[0], t, message)], []
+        _, signature, _, below = seam(part, heights)
+        sums, roots = self.signed(below, heights[1:], split(heights, t)[1], message)
+        return [signature, *sums], [self.root(below, heights[1]), *roots]
+
+    def laid(self, sums, roots):
+        """Rule 8, and request 11."""
+        return b"".join(sums + roots)
+
+    def taken(self, signature, heights):
+        """The same, taken apart."""
+        cuts = cut(signature, *map(sum_size, heights), *[32] * (len(heights) - 1))
+        return cuts[: len(heights)], cuts[len(heights) :]
+
+    def product_verdict(self, heights, key, step, message, signature):
+        """Rule 8: each tree's signature, at its step, under the root that the one above signed, over the root of the one below; the last
+        over the message. Paths come first: a bad one should cost no Ed25519 check."""
+        sums, roots = self.taken(signature, heights)
+        fits = all(self.path_fits(*path) for path in zip([key, *roots], heights, steps_of(heights, step), sums))
+        return fits and self.leaves_accept([*roots, message], sums)
+
+    def leaves_accept(self, messages, sums):
+        return all(self.leaf_accepts(*leaf) for leaf in zip(messages, sums))
+
+    # The calls.
+
+    def header(self, *given):
+        return header(*given)
+
+    def found(self, table):
+        """Requests 8 and 11, as read."""
+        return read_header(table)
+
+    def make(self, h1, h2, seed, table):
+        return self.make_with((h1, h2), seed, table)
+
+    def make3(self, h1, h2, h3, seed, table):
+        return self.make_with((h1, h2, h3), seed, table)
 
     @asking((UNANSWERED, 0))
-    def make(self, h1, h2, seed, table):
+    def make_with(self, heights, seed, table):
         """1, 2, 4, 9. Answers the number and the count; a made key zeroes the lent seed."""
-        if max(h1, h2) > TALLEST:
+        if not fit(heights):
             return HEIGHT, 0
         if len(seed) != 32:
             return SEED_OR_KEY, 0
-        if len(table) != table_size(h1, h2):
+        if len(table) != table_size(*heights):
             return LENGTH, 0
-        child_seed, next_seed = self.chain(right(seed), 1)
-        parent, child = self.tree_at(left(seed), h1, 0), self.tree_at(child_seed, h2, 0)
-        table[:] = header(h1, h2, 0, 0, 0) + self.body(h1, 0, parent, next_seed, h2, child)
+        table[:] = self.header(heights, 0, 0, 0) + self.part_at(bytes(seed), heights, 0)
         seed[:] = ZEROS
-        return DONE, self.count_new(h1) + self.count_new(h2)
+        return DONE, self.count_grown(heights, 0)
 
     def read_key(self, table, key):
-        """3, 4. The verification key is the parent's root."""
-        found = read_header(table)
+        """3, 4. The verification key is the top tree's root."""
+        found = self.found(table)
         if found is None:
             return TABLE
         if len(key) != 32:
             return LENGTH
-        h1, h2, _ = found
-        key[:] = self.root(read_body(table, h1, h2)[0], h1)
+        key[:] = self.root(bytes(table[HEADER:]), found[0][0])
         return DONE
 
     @asking((UNANSWERED, 0))
@@ -289,20 +404,18 @@ class Scheme:
 
     def asked_for(self, table, step, early):
         """Both, up to the number that a step gets which is not later."""
-        found = read_header(table)
+        found = self.found(table)
         if found is None:
             return TABLE, 0
-        h1, h2, now = found
-        if step >= steps(h1, h2):
+        heights, now = found
+        if step >= steps(*heights):
             return PAST_END, 0
         if step <= now:
             return early, 0
         if not self.released(table, step):
             return NOT_RELEASED, 0
-        same_child = now >> h2 == step >> h2
-        body, count = (self.move_child if same_child else self.move_parent)(table, h1, h2, now, step)
-        table[:] = header(h1, h2, step, *numbers_in(table)) + body
-        return DONE, count
+        table[:] = self.header(heights, step, *numbers_in(table)) + self.moved_part(bytes(table[HEADER:]), heights, now, step)
+        return DONE, self.count_moved(heights, now, step)
 
     def released(self, table, step):
         """Request 8: both windows' numbers are at the step or above."""
@@ -310,12 +423,12 @@ class Scheme:
 
     def release(self, table, window, step):
         """Request 8: 3, 10, 11. Sets the window's number in its four bytes, at most T and never lower than it stood."""
-        found = read_header(table)
+        found = self.found(table)
         if found is None:
             return TABLE
         if window > 1:
             return WINDOW
-        if step < numbers_in(table)[window] or step > steps(*found[:2]):
+        if step < numbers_in(table)[window] or step > steps(*found[0]):
             return LOWERED
         at = 8 + 4 * window
         table[at : at + 4] = step.to_bytes(4, "little")
@@ -324,57 +437,38 @@ class Scheme:
     def free(self, table):
         """Both windows release all, as a desk with none of them does."""
         for window in (0, 1):
-            self.release(table, window, steps(*table[:2]))
-
-    def move_child(self, table, h1, h2, now, step):
-        """The parent step stays, and all of the parent with it."""
-        t2, new_t2 = now % 2**h2, step % 2**h2
-        parent, signature, next_seed, child = read_body(table, h1, h2)
-        return parent + signature + next_seed + self.moved(child, h2, t2, new_t2), self.count_move(t2, new_t2)
-
-    def move_parent(self, table, h1, h2, now, step):
-        """The parent moves, and a new child grows and moves to its step."""
-        t1, (new_t1, new_t2) = now // 2**h2, divmod(step, 2**h2)
-        parent, _, stored, _ = read_body(table, h1, h2)
-        child_seed, next_seed = self.chain(stored, new_t1 - t1)
-        parent, child = self.moved(parent, h1, t1, new_t1), self.tree_at(child_seed, h2, new_t2)
-        count = self.count_move(t1, new_t1) + self.count_new(h2) + self.count_move(0, new_t2)
-        return self.body(h1, new_t1, parent, next_seed, h2, child), count
+            self.release(table, window, steps(*self.found(table)[0]))
 
     @asking(UNANSWERED)
     def sign(self, table, message, out):
         """3, 7, 4, 9."""
-        found = read_header(table)
+        found = self.found(table)
         if found is None:
             return TABLE
         if len(message) > LONGEST:
             return TOO_LONG
-        h1, h2, step = found
-        if len(out) != signature_size(h1, h2):
+        heights, step = found
+        if len(out) != signature_size(*heights):
             return LENGTH
-        _, parent_signature, _, child = read_body(table, h1, h2)
-        out[:] = parent_signature + self.sum_signature(child, h2, step % 2**h2, bytes(message)) + self.root(child, h2)
+        out[:] = self.laid(*self.signed(bytes(table[HEADER:]), heights, step, bytes(message)))
         return DONE
 
     def verify(self, h1, h2, key, step, message, signature):
+        return self.judge((h1, h2), key, step, message, signature)
+
+    def verify3(self, h1, h2, h3, key, step, message, signature):
+        return self.judge((h1, h2, h3), key, step, message, signature)
+
+    def judge(self, heights, key, step, message, signature):
         """1, 2, 4, 7, 6; then 0 or 100."""
-        if max(h1, h2) > TALLEST:
+        if not fit(heights):
             return HEIGHT
         if len(key) != 32:
             return SEED_OR_KEY
-        if len(signature) != signature_size(h1, h2):
+        if len(signature) != signature_size(*heights):
             return LENGTH
         if len(message) > LONGEST:
             return TOO_LONG
-        if step >= steps(h1, h2):
+        if step >= steps(*heights):
             return PAST_END
-        accepted = self.product_verdict(h1, h2, key, step, bytes(message), signature)
-        return DONE if accepted else NOT_ACCEPTED
-
-    def product_verdict(self, h1, h2, key, step, message, signature):
-        """Rule 8: the parent's over R2 at t1 under the verification key, the child's over the message at t2 under R2.
-        Paths come first: a bad one should cost no Ed25519 check."""
-        t1, t2 = divmod(step, 2**h2)
-        parents, childs, r2 = cut(signature, sum_size(h1), sum_size(h2), 32)
-        fits = self.path_fits(key, h1, t1, parents) and self.path_fits(r2, h2, t2, childs)
-        return fits and self.leaf_accepts(r2, parents) and self.leaf_accepts(message, childs)
+        return DONE if self.product_verdict(heights, key, step, bytes(message), signature) else NOT_ACCEPTED

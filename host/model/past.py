@@ -49,24 +49,34 @@ class Found:
 class Past(Found):
     """Of a key."""
 
-    def __init__(self, seed, h1, h2, t, signatures=()):
-        self.names, self.parents, self.children = {seed: "the key's seed"}, {}, {}
-        t1, t2 = divmod(t, 2**h2)
-        self.tree("parent", grown(kes.left(seed), h1, t1), self.parents, 0)
-        stored = kes.right(seed)
-        for n in range(t1 + 1):
-            self.names[stored] = f"the seed before child {n}"
-            self.tree(f"child {n}", grown(kes.left(stored), h2, t2 if n == t1 else 2**h2 - 1), self.children, n * 2**h2)
-            stored = kes.right(stored)
-        self.present = self.children.pop(t)
+    def __init__(self, seed, heights, t, signatures=()):
+        # of each depth, from the top tree down, the secrets of its leaves, in all trees that there were
+        self.names, self.secrets = {}, [{} for _ in heights]
+        self.part("the key", seed, heights, t, 0)
+        self.names[seed] = "the key's seed"
+        self.present = self.secrets[-1].pop(t)
         del self.names[self.present]
-        for secret in [*self.parents.values(), *self.children.values()]:
+        for secret in [secret for secrets in self.secrets for secret in secrets.values()]:
             self.expanded(self.names[secret], secret)
         for step, message, signature in signatures:
-            # the last 32 bytes are the root that the parent's leaf signed
-            self.nonce(self.parents[step >> h2], signature[-32:])
+            # the last bytes are the roots that the leaves above the last tree signed
+            for depth, root in enumerate(kes.cut(signature[-32 * (len(heights) - 1) :], *[32] * (len(heights) - 1))):
+                self.nonce(self.secrets[depth][step >> sum(heights[depth + 1 :])], root)
             if step != t:
-                self.nonce(self.children[step], message)
+                self.nonce(self.secrets[-1][step], message)
+
+    def part(self, name, seed, heights, t, first):
+        """A part that is at step t, the first leaf of whose top tree is this one of its depth."""
+        if len(heights) == 1:
+            return self.tree(f"{name}, the last tree", grown(seed, heights[0], t), self.secrets[-1], first)
+        top, inner = kes.split(heights, t)
+        self.tree(f"{name}, the tree above", grown(kes.left(seed), heights[0], top), self.secrets[-len(heights)], first)
+        stored, last = kes.right(seed), kes.steps(*heights[1:]) - 1
+        for n in range(top + 1):
+            self.names[stored] = f"{name}, the seed before part {n}"
+            self.names[kes.left(stored)] = f"{name}, the seed of part {n}"
+            self.part(f"{name}, part {n}", kes.left(stored), heights[1:], inner if n == top else last, (first + n) * 2 ** heights[1])
+            stored = kes.right(stored)
 
     def tree(self, name, seeds, secrets, first):
         for seed, leaf in seeds:

@@ -2,17 +2,15 @@
 that a comparison notices it. Below them the same for the fair's cache, the plain engine and the card index."""
 from cards import CARDS, Index, LAST_CARD, MOST_LINES
 from fair import ENTRY, Fair, fits
-from kes import DONE, LENGTH, TABLE, TALLEST, ZEROS, Scheme, numbers_in, read_body, read_header, signature_size, steps
+from kes import DONE, HEIGHT, LENGTH, LIMITS, TABLE, ZEROS, Scheme, fit, numbers_in, read_header, seam, signature_size, split, steps
 from plain import HIGHEST, Plain
 
 
 class StepModulo(Scheme):
     """The verifier takes the step modulo T, where number 6 is due."""
 
-    def verify(self, h1, h2, key, step, message, signature):
-        if max(h1, h2) <= TALLEST:
-            step %= steps(h1, h2)
-        return super().verify(h1, h2, key, step, message, signature)
+    def judge(self, heights, key, step, message, signature):
+        return super().judge(heights, key, step % steps(*heights) if fit(heights) else step, message, signature)
 
 
 class SeedKept(Scheme):
@@ -64,27 +62,23 @@ class LengthFirst(Scheme):
 
     def sign(self, table, message, out):
         found = read_header(table)
-        return LENGTH if found and len(out) != signature_size(*found[:2]) else super().sign(table, message, out)
+        return LENGTH if found and len(out) != signature_size(*found[0]) else super().sign(table, message, out)
 
 
 class SeedGone(Scheme):
     """A refused make zeroes the seed, too."""
 
-    def make(self, h1, h2, seed, table):
-        answer = super().make(h1, h2, seed, table)
+    def make_with(self, heights, seed, table):
+        answer = super().make_with(heights, seed, table)
         seed[:] = bytes(len(seed))
         return answer
 
 
 class NextSeedGone(Scheme):
-    """At the last parent step no next seed is stored."""
+    """At a tree's last step no next seed is stored."""
 
-    def move(self, table, step):
-        answer = super().move(table, step)
-        if answer[0] == DONE and step >> table[1] == 2 ** table[0] - 1:
-            at = len(table) - len(read_body(table, *table[:2])[3])
-            table[at - 32 : at] = ZEROS
-        return answer
+    def seal(self, heights, t, tree, next_seed, below):
+        return super().seal(heights, t, tree, ZEROS if t == 2 ** heights[0] - 1 else next_seed, below)
 
 
 class BodyJudged(Scheme):
@@ -145,7 +139,7 @@ class PastT(Scheme):
     """A release past T is done, as one of T."""
 
     def release(self, table, window, step):
-        return super().release(table, window, min(step, steps(*table[:2]))) if read_header(table) else TABLE
+        return super().release(table, window, min(step, steps(*read_header(table)[0]))) if read_header(table) else TABLE
 
 
 class Lowers(Scheme):
@@ -161,6 +155,90 @@ class Lowers(Scheme):
 WINDOWS = [OtherWindow, OneWindow, Below, PastT, Lowers]
 
 HOSTILE = [StepCut, LengthFirst, SeedGone, NextSeedGone, BodyJudged, StayRefused, StayCounts, StayWrites]
+
+
+class ChainKept(Scheme):
+    """A replaced middle tree goes on with the chain of the old one."""
+
+    stored = None
+
+    def moved_part(self, part, heights, a, b):
+        if len(heights) == 3 and split(heights, a)[0] != split(heights, b)[0]:
+            self.stored = seam(seam(part, heights)[3], heights[1:])[2]
+        try:
+            return super().moved_part(part, heights, a, b)
+        finally:
+            self.stored = None
+
+    def chain_from(self, seed):
+        return self.stored or super().chain_from(seed)
+
+
+class RootsSwapped(Scheme):
+    """The right tree's root stands before the middle's, in signing and in verifying."""
+
+    def laid(self, sums, roots):
+        return super().laid(sums, roots[::-1])
+
+    def taken(self, signature, heights):
+        sums, roots = super().taken(signature, heights)
+        return sums, roots[::-1]
+
+
+class MiddleSecretLeft(Scheme):
+    """The middle leaf's secret stays."""
+
+    def make_with(self, heights, seed, table):
+        self.three = len(heights) == 3
+        return super().make_with(heights, seed, table)
+
+    def asked_for(self, table, step, early):
+        self.three = table[2:3] == b"\2"
+        return super().asked_for(table, step, early)
+
+    def seal(self, heights, t, tree, next_seed, below):
+        sealed, at = super().seal(heights, t, tree, next_seed, below), 96 * heights[0]
+        return sealed[:at] + tree[at : at + 32] + sealed[at + 32 :] if self.three and len(heights) == 2 else sealed
+
+
+class ThirdInByte1(Scheme):
+    """The third height stands in byte 1, and the second in byte 3."""
+
+    def swapped(self, table):
+        return bytes([table[0], table[3], 2, table[1]]) + table[4:] if table[2:3] == b"\2" else table
+
+    def header(self, *given):
+        return self.swapped(super().header(*given))
+
+    def found(self, table):
+        return super().found(self.swapped(table))
+
+
+class TooHighThree(Scheme):
+    """Three trees may be as high as two."""
+
+    def judge(self, heights, key, step, message, signature):
+        number = super().judge(heights, key, step, message, signature)
+        return LENGTH if number == HEIGHT and max(heights) <= LIMITS[2] else number
+
+
+class MiddleNotChecked(Scheme):
+    """The middle leaf's signature is not checked."""
+
+    def leaves_accept(self, messages, sums):
+        return super().leaves_accept(messages[::2], sums[::2]) if len(sums) == 3 else super().leaves_accept(messages, sums)
+
+
+class MiddleUncounted(Scheme):
+    """A new middle tree is not counted."""
+
+    def count_moved(self, heights, a, b):
+        new = len(heights) == 3 and split(heights, a)[0] != split(heights, b)[0]
+        return super().count_moved(heights, a, b) - (self.count_new(heights[1]) if new else 0)
+
+
+# the first four leave a key whose own signatures are accepted
+TRIPLE = [ChainKept, RootsSwapped, MiddleSecretLeft, ThirdInByte1, TooHighThree, MiddleNotChecked, MiddleUncounted]
 
 
 class TwoBytes(Fair):

@@ -17,10 +17,10 @@ class TallyLeft(Scheme):
 class GoesOn(Scheme):
     """A make asks on after a silence."""
 
-    def make(self, h1, h2, seed, table):
-        tally, answer = self.module.tally, super().make(h1, h2, seed, table)
+    def make_with(self, heights, seed, table):
+        tally, answer = self.module.tally, super().make_with(heights, seed, table)
         if answer[0] == UNANSWERED:
-            self.module.tally = (tally + 2**h1 + 2**h2 + 1) % 2**64
+            self.module.tally = (tally + self.count_grown(heights, 0) + len(heights) - 1) % 2**64
         return answer
 
 
@@ -55,8 +55,8 @@ class ClearedBySilence(Scheme):
 class SeedGoneBySilence(Scheme):
     """A make that is not answered zeroes the seed."""
 
-    def make(self, h1, h2, seed, table):
-        answer = super().make(h1, h2, seed, table)
+    def make_with(self, heights, seed, table):
+        answer = super().make_with(heights, seed, table)
         if answer[0] == UNANSWERED:
             seed[:] = ZEROS
         return answer
@@ -65,8 +65,8 @@ class SeedGoneBySilence(Scheme):
 class NineForNothing(Scheme):
     """A make whose last number is the one before a silence gives 9."""
 
-    def make(self, h1, h2, seed, table):
-        kept, answer = (bytes(seed), bytes(table)), super().make(h1, h2, seed, table)
+    def make_with(self, heights, seed, table):
+        kept, answer = (bytes(seed), bytes(table)), super().make_with(heights, seed, table)
         if answer[0] == DONE and not self.module.answered(self.module.tally):
             seed[:], table[:] = kept
             return UNANSWERED, 0

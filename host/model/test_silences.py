@@ -12,7 +12,7 @@ from plain import Plain
 from plain import table_size as plain_size
 from silences import FAIR_SILENCES, PLAIN_SILENCES, SILENCES
 
-HEIGHTS = [(0, 0), (1, 0), (0, 1), (2, 2)]
+HEIGHTS = [(0, 0), (1, 0), (0, 1), (2, 2), (0, 0, 0), (1, 1, 1)]
 MODULE = Module(standin)
 # where a tally may begin: nothing near, and close to where it, or its lower half, begins anew
 STARTS = [5, 2**32 - 3, 2**64 - 3]
@@ -37,29 +37,31 @@ def always(number):
     return True
 
 
-def table_at(h1, h2, step):
+def table_at(heights, step):
     """With every answer given."""
-    MODULE.answered, table, scheme = always, bytearray(table_size(h1, h2)), Scheme(MODULE)
-    scheme.make(h1, h2, bytearray(range(32)), table)
+    MODULE.answered, table, scheme = always, bytearray(table_size(*heights)), Scheme(MODULE)
+    scheme.make_with(heights, bytearray(range(32)), table)
     scheme.free(table)
     scheme.move(table, step)
     return bytes(table)
 
 
-def move_most(h1, h2, a, b):
-    """The rules' count, and one for the root that the parent signs where its step changes."""
-    count = Scheme(MODULE).move(bytearray(table_at(h1, h2, a)), b)[1]
-    return count if a >> h2 == b >> h2 else count + 1
+def move_most(heights, a, b):
+    """The rules' count, and one for each root that is signed: those below the topmost tree whose step changes."""
+    count = Scheme(MODULE).move(bytearray(table_at(heights, a)), b)[1]
+    top = next(n for n, (t, u) in enumerate(zip(kes.steps_of(heights, a), kes.steps_of(heights, b))) if t != u)
+    return count + len(heights) - 1 - top
 
 
 def keys():
-    for h1, h2 in HEIGHTS:
-        yield Asking(f"make {h1} {h2}", 2**h1 + 2**h2 + 1, "make", h1, h2, bytes(range(1, 33)), b"\5" * table_size(h1, h2))
-        yield Asking(f"sign {h1} {h2}", 1, "sign", table_at(h1, h2, steps(h1, h2) - 1), b"text", b"\5" * signature_size(h1, h2))
-    for h1, h2 in HEIGHTS:
-        for a, b in itertools.combinations(range(steps(h1, h2)), 2):
+    for heights in HEIGHTS:
+        make = "make" if len(heights) == 2 else "make3"
+        most = sum(2**h for h in heights) + len(heights) - 1
+        yield Asking(f"make {heights}", most, make, *heights, bytes(range(1, 33)), b"\5" * table_size(*heights))
+        yield Asking(f"sign {heights}", 1, "sign", table_at(heights, steps(*heights) - 1), b"text", b"\5" * signature_size(*heights))
+        for a, b in itertools.combinations(range(steps(*heights)), 2):
             for call in ("move", "catch_up"):
-                yield Asking(f"{call} {h1} {h2} {a} {b}", move_most(h1, h2, a, b), call, table_at(h1, h2, a), b)
+                yield Asking(f"{call} {heights} {a} {b}", move_most(heights, a, b), call, table_at(heights, a), b)
 
 
 def fairs():
@@ -131,14 +133,14 @@ def other_refusals():
 def straight():
     """Demand 3: after any moves, answered or not, the table is the first one moved once, with every answer given, to the last step reached."""
     draw, scheme, seen = random.Random(3), Scheme(MODULE), {}
-    for h1, h2 in HEIGHTS * 10:
-        table, reached = bytearray(table_at(h1, h2, 0)), 0
+    for heights in HEIGHTS * 10:
+        table, reached = bytearray(table_at(heights, 0)), 0
         for _ in range(8):
-            step, MODULE.tally = draw.randrange(steps(h1, h2) + 1), draw.randrange(2**64 - 8, 2**64)
+            step, MODULE.tally = draw.randrange(steps(*heights) + 1), draw.randrange(2**64 - 8, 2**64)
             MODULE.answered = lambda number: number % 4 != 1
             number, _ = scheme.move(table, step)
             reached = step if number == kes.DONE else reached
-            assert table == table_at(h1, h2, reached), (h1, h2, step)
+            assert table == table_at(heights, reached), (heights, step)
             seen[number] = seen.get(number, 0) + 1
     assert seen.keys() == {kes.DONE, kes.NOT_LATER, kes.PAST_END, UNANSWERED}
     return sum(seen.values())

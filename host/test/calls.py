@@ -7,7 +7,7 @@ import tempfile
 import time
 
 sys.dont_write_bytecode = True
-from lib.library import CATCH_UP, FAIR_MAKE, FAIR_MOVE, FAIR_SIGN, FAIR_VERIFY, HASH, MAKE, MOVE, READ_KEY, RELEASE, SIGN, VERIFY, Library
+from lib.library import CATCH_UP, FAIR_MAKE, FAIR_MOVE, FAIR_SIGN, FAIR_VERIFY, HASH, MOVE, READ_KEY, RELEASE, SIGN, Library, making, verifying
 from lib.library import PLAIN_FILL, PLAIN_PATH, PLAIN_ROOT, PLAIN_SIGN
 from lib.modelled import NAMES, Model, fair, kes, plain, show
 
@@ -40,29 +40,31 @@ class Drawing:
 
 
 class Desk(Drawing):
-    """Draws calls around keys that live on from call to call."""
+    """Draws calls around keys, of two trees and of three, that live on from call to call."""
 
     heights, table = (0, 0), b""
 
-    def height(self):
-        return self.draw.choice([0, 1, 2, 3, 0, 1, 2, self.draw.choice([13, 255, 2**32, 2**63 + 1])])
+    def height(self, trees):
+        return self.draw.choice([0, 1, 2, 3, 0, 1, 2, self.draw.choice([kes.LIMITS[trees] + 1, 255, 2**32, 2**63 + 1])])
 
     def step(self):
-        h1, h2 = self.heights
-        last = kes.steps(h1, h2)
+        last = kes.steps(*self.heights)
         return self.draw.choice([self.draw.randrange(last), self.draw.randrange(last), last - 1, last, 0, 2**32, 2**64 - 1])
 
     def make(self):
-        h1, h2 = self.height(), self.height()
-        size = kes.table_size(h1, h2) if max(h1, h2) <= 12 else 272
+        """At times for no window: then both have released all."""
+        trees = self.draw.choice([2, 3])
+        heights = tuple(self.height(trees) for _ in range(trees))
+        size = kes.table_size(*heights) if kes.fit(heights) else 272
         seed = self.odd(bytes([self.draw.randrange(8)]) * 32)
-        request = MAKE, h1, h2, 0, [seed, self.odd(bytes(size)), b""], self.module()
+        request = making(heights, [seed, self.odd(bytes(size)), b""], self.module())
         answer, _, (_, table, _) = self.model.call(*request)
         if answer & 0xFFFFFFFF == 0:
-            self.heights, self.table, self.signed = (h1, h2), table, None
-            key = bytearray(32)
+            table, key = bytearray(table), bytearray(32)
             self.model.scheme.read_key(table, key)
-            self.key = bytes(key)
+            if self.draw.random() < 0.5:
+                self.model.scheme.free(table)
+            self.heights, self.table, self.key, self.signed = heights, bytes(table), bytes(key), None
         return request
 
     def read_key(self):
@@ -70,10 +72,10 @@ class Desk(Drawing):
 
     def move(self):
         """By a move, or by a catch-up."""
-        op, (h1, h2) = self.draw.choice([MOVE, CATCH_UP]), self.heights
-        if self.draw.random() < 0.1 and max(h1, h2) < 3:
-            body = self.draw.randbytes(kes.table_size(h1, h2) - kes.HEADER)
-            return op, 0, 0, self.step(), [kes.header(h1, h2, self.draw.randrange(kes.steps(h1, h2))) + body, b"", b""], self.module()
+        op, heights = self.draw.choice([MOVE, CATCH_UP]), self.heights
+        if self.draw.random() < 0.1 and max(heights) < 3:
+            body = self.draw.randbytes(kes.part_size(*heights))
+            return op, 0, 0, self.step(), [kes.header(heights, self.draw.randrange(kes.steps(*heights))) + body, b"", b""], self.module()
         request = op, 0, 0, self.step(), [self.odd(self.table), b"", b""], self.module()
         answer, _, (table, _, _) = self.model.call(*request)
         if answer & 0xFFFFFFFF == 0 and request[4][0] == self.table:
@@ -94,19 +96,19 @@ class Desk(Drawing):
         request = SIGN, 0, 0, 0, [self.odd(self.table), self.message(), self.odd(bytes(size))], self.module()
         answer, _, (table, message, signature) = self.model.call(*request)
         if answer == 0 and table == self.table:
-            self.signed = kes.read_header(table)[2], message, signature
+            self.signed = kes.read_header(table)[1], message, signature
         return request
 
     def verify(self):
-        h1, h2 = self.heights
-        step, message, signature = self.signed or (0, b"", bytes(kes.signature_size(h1, h2)))
+        heights = self.heights
+        step, message, signature = self.signed or (0, b"", bytes(kes.signature_size(*heights)))
         if self.draw.random() < 0.3:
             step = self.step()
         if self.draw.random() < 0.1:
             message = self.message()
         if self.draw.random() < 0.1:
-            h1 = self.height()
-        return VERIFY, h1, h2, step, [self.odd(self.key), message, self.odd(signature)]
+            heights = (*heights[:-1], self.height(len(heights)))
+        return verifying(heights, step, [self.odd(self.key), message, self.odd(signature)])
 
     def hash(self):
         return HASH, 0, 0, 0, [self.message(), self.odd(bytes(32)), b""]

@@ -102,7 +102,7 @@ def verify(cases):
 def by_model(heights, root, *rest):
     if len(heights) == 1:
         return MODEL.sum_verdict(root, *heights, *rest)
-    return MODEL.product_verdict(*heights, root, *rest)
+    return MODEL.product_verdict(heights, root, *rest)
 
 
 def damaged(heights, root, step, message, signature):

@@ -1,5 +1,5 @@
 #!/usr/bin/env python3
-"""A module that drops out, at every place at which a call can fail: each make, move and catch-up at heights 2 and 2, signing, a fair's make of three
+"""A module that drops out, at every place at which a call can fail: each make, move and catch-up at heights 2 and 2 and at 1, 1 and 1, signing, a fair's make of three
 entries and its signing, a plain tree of height 3 and its signing, from tallies near 0, 2^32 and 2^64. Each time the call is made again with the tally left. Every answer, every
 buffer and the tally are the independent model's. And nothing but crate ed25519 stores to a tally. Needs desk/build before."""
 import itertools
@@ -9,7 +9,7 @@ import sys
 import tempfile
 
 sys.dont_write_bytecode = True
-from lib.library import CATCH_UP, FAIR_MAKE, FAIR_SIGN, MAKE, MOVE, PLAIN_FILL, PLAIN_SIGN, RELEASE, SIGN, Library
+from lib.library import CATCH_UP, FAIR_MAKE, FAIR_SIGN, MOVE, PLAIN_FILL, PLAIN_SIGN, RELEASE, SIGN, Library, making
 from lib.modelled import NAMES, Model, fair, kes, plain, show, sodium
 
 ROOT = pathlib.Path(__file__).resolve().parents[2]
@@ -18,19 +18,26 @@ STARTS = [0, 2**32 - 4, 2**32 + 96, 2**64 - 4]
 EVERY = 2**32
 
 
+def key_askings(model, heights, seed, nines):
+    """Those of a key."""
+    size, end = kes.table_size(*heights), kes.steps(*heights)
+    _, _, (_, fresh) = model.call(*making(heights, [seed, bytes(size)]))
+    for window in (0, 1):
+        _, _, (fresh,) = model.call(RELEASE, window, 0, end, [fresh])
+    tables = [fresh] + [model.call(MOVE, 0, 0, step, [fresh])[2][0] for step in range(1, end)]
+    yield making(heights, [seed, nines * size])
+    for a, b in itertools.combinations(range(end), 2):
+        yield MOVE, 0, 0, b, [tables[a]]
+        yield CATCH_UP, 0, 0, b, [tables[a]]
+    yield SIGN, 0, 0, 0, [tables[end // 2 + 1], b"a top-up", nines * kes.signature_size(*heights)]
+
+
 def askings(model):
     """Each call, over what it is lent. What it may write to is no zeros, so that clearing shows."""
     master, seeds, nines = bytes(range(32)), bytes(range(96)), b"\x09"
-    _, _, (_, fresh) = model.call(MAKE, 2, 2, 0, [master, bytes(720)])
-    _, _, (fresh,) = model.call(RELEASE, 0, 0, 16, [fresh])
-    _, _, (fresh,) = model.call(RELEASE, 1, 0, 16, [fresh])
-    tables = [fresh] + [model.call(MOVE, 0, 0, step, [fresh])[2][0] for step in range(1, 16)]
+    for heights in ((2, 2), (1, 1, 1)):
+        yield from key_askings(model, heights, master, nines)
     cache = model.call(FAIR_MAKE, 3, 0, 0, [master, seeds, bytes(fair.cache_size(3)), bytes(32)])[2][2]
-    yield MAKE, 2, 2, 0, [master, nines * 720]
-    for a, b in itertools.combinations(range(16), 2):
-        yield MOVE, 0, 0, b, [tables[a]]
-        yield CATCH_UP, 0, 0, b, [tables[a]]
-    yield SIGN, 0, 0, 0, [tables[9], b"a top-up", nines * 352]
     yield FAIR_MAKE, 3, 0, 0, [master, seeds, nines * fair.cache_size(3), nines * 32]
     yield FAIR_SIGN, 0, 0, 0, [cache, b"a sale", nines * fair.SIGNATURE]
     tree = model.call(PLAIN_FILL, 3, 0, 0, [master, bytes(plain.table_size(3))])[2][1]
@@ -46,20 +53,25 @@ def same(library, model, request):
     return given
 
 
+def at(asking, module):
+    """A call over such a module."""
+    return *asking[:5], module, *asking[6:]
+
+
 def fail_and_retry(library, model, asking, start, k):
     """The k-th asking from start on is silent: 9, and then the same call, with the tally left, is done."""
     module = EVERY, (start + k) % EVERY
-    answer, (*_, tally), left = same(library, model, (*asking, (start, *module)))
+    answer, (*_, tally), left = same(library, model, at(asking, (start, *module)))
     if (answer, tally, left) != (kes.UNANSWERED, (start + k + 1) % 2**64, asking[4]):
         sys.exit(f"silences: {NAMES[asking[0]]}: a silence gives {answer} or leaves another thing than the tally")
-    return same(library, model, (*asking, (tally, *module)))
+    return same(library, model, at(asking, (tally, *module)))
 
 
 def silent_places(library, model, asking):
     """Every failing place of a call; answers how many there were."""
     places = 0
     for start in STARTS:
-        done = same(library, model, (*asking, (start, 0, 0)))
+        done = same(library, model, at(asking, (start, 0, 0)))
         for k in range((done[1][3] - start) % 2**64):
             again = fail_and_retry(library, model, asking, start, k)
             if (again[0], again[2]) != (done[0], done[2]):

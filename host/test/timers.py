@@ -1,5 +1,5 @@
 #!/usr/bin/env python3
-"""Request 1's law, from C and against the independent model: at four pairs of heights every two steps, those past the end too, are
+"""Request 1's law, from C and against the independent model: at four pairs of heights and two of three every two steps, those past the end too, are
 caught up to in both orders and twice, on good tables and on damaged ones, whose bytes behind a good header are anything, with windows that have released all or a part. The table is
 the same in either order, a second asking is done with count 0 and leaves table and tally, and 5 is never answered. Needs desk/build before."""
 import itertools
@@ -8,10 +8,10 @@ import sys
 import tempfile
 
 sys.dont_write_bytecode = True
-from lib.library import CATCH_UP, MAKE, Library
+from lib.library import CATCH_UP, Library, making
 from lib.modelled import Model, kes, show
 
-HEIGHTS = [(2, 2), (1, 0), (0, 1), (1, 2)]
+HEIGHTS = [(2, 2), (1, 0), (0, 1), (1, 2), (1, 1, 1), (0, 1, 0)]
 
 
 class Timers:
@@ -45,16 +45,16 @@ class Timers:
                 sys.exit(f"timers: steps {a} and {b} do not give one table in both orders, on {table.hex()}")
 
 
-def tables(model, draw, h1, h2):
+def tables(model, draw, heights):
     """Good ones at two steps, and damaged ones: any bytes behind a good header, and behind a bad one; with windows that have released all or a part."""
-    end = kes.steps(h1, h2)
-    _, _, (_, fresh) = model.call(MAKE, h1, h2, 0, [bytes(range(32)), bytes(kes.table_size(h1, h2))])
-    yield kes.header(h1, h2, 0, end - 1, end // 2 + 1) + fresh[kes.HEADER :]
-    fresh = kes.header(h1, h2, 0) + fresh[kes.HEADER :]
+    end = kes.steps(*heights)
+    _, _, (_, fresh) = model.call(*making(heights, [bytes(range(32)), bytes(kes.table_size(*heights))]))
+    yield kes.header(heights, 0, end - 1, end // 2 + 1) + fresh[kes.HEADER :]
+    fresh = kes.header(heights, 0) + fresh[kes.HEADER :]
     yield fresh
     yield model.call(CATCH_UP, 0, 0, end // 3, [fresh])[2][0]
-    yield kes.header(h1, h2, end // 3, end - 1, end) + draw.randbytes(len(fresh) - kes.HEADER)
-    yield kes.header(h1, h2, end) + fresh[kes.HEADER :]
+    yield kes.header(heights, end // 3, end - 1, end) + draw.randbytes(len(fresh) - kes.HEADER)
+    yield kes.header(heights, end) + fresh[kes.HEADER :]
 
 
 def main():
@@ -62,10 +62,10 @@ def main():
     with tempfile.TemporaryDirectory() as folder:
         model = Model()
         timers = Timers(Library(folder), model)
-        for h1, h2 in HEIGHTS:
-            for table in tables(model, draw, h1, h2):
-                timers.orders(table, [*range(kes.steps(h1, h2) + 1), 2**64 - 1])
-    print(f"timers: {timers.calls} catch-ups, every two steps at {len(HEIGHTS)} pairs of heights in both orders, are those of the model")
+        for heights in HEIGHTS:
+            for table in tables(model, draw, heights):
+                timers.orders(table, [*range(kes.steps(*heights) + 1), 2**64 - 1])
+    print(f"timers: {timers.calls} catch-ups, every two steps at {len(HEIGHTS)} choices of heights in both orders, are those of the model")
 
 
 main()

@@ -19,18 +19,22 @@ import kes
 import sodium
 from lib.library import COUNTED, program
 from past import FairPast, Past, number_of
-from planted import SecretKept, SeedKept
+from planted import MiddleSecretLeft, SecretKept, SeedKept
 
-MAKE, MOVE, SIGN, WIPE, FAIR_MAKE, FAIR_MOVE, FAIR_SIGN = range(7)
-# heights, and the steps moved to: singly, in jumps, over one and over many of the parent's steps
+MAKE, MAKE3, MOVE, SIGN, WIPE, FAIR_MAKE, FAIR_MOVE, FAIR_SIGN = range(8)
+# heights, and the steps moved to: singly, in jumps, over one and over many steps of the trees above
 HISTORIES = [
-    (0, 0, []),
-    (0, 3, [1, 2, 3, 7]),
-    (3, 0, [1, 2, 5]),
-    (2, 2, range(1, 16)),
-    (1, 3, [3, 7, 8, 14]),
-    (3, 2, [4, 5, 6, 21, 31]),
-    (6, 6, [1, 63, 64, 65, 700, 2048, 3000]),
+    ((0, 0), []),
+    ((0, 3), [1, 2, 3, 7]),
+    ((3, 0), [1, 2, 5]),
+    ((2, 2), range(1, 16)),
+    ((1, 3), [3, 7, 8, 14]),
+    ((3, 2), [4, 5, 6, 21, 31]),
+    ((6, 6), [1, 63, 64, 65, 700, 2048, 3000]),
+    ((0, 0, 0), []),
+    ((1, 1, 1), range(1, 8)),
+    ((2, 1, 2), [1, 3, 4, 7, 8, 22, 31]),
+    ((4, 4, 4), [1, 15, 16, 17, 255, 256, 700, 3000]),
 ]
 # entries of a fair, and the steps moved to
 FAIRS = [(1, []), (3, [1, 2]), (24, [1, 5, 23]), (256, [1, 128, 255])]
@@ -40,9 +44,9 @@ class Host:
     def __init__(self, driver):
         self.process = subprocess.Popen([driver], stdin=subprocess.PIPE, stdout=subprocess.PIPE, bufsize=0)
 
-    def ask(self, op, h1=0, h2=0, step=0, data=b"", size=0, silent=0):
+    def ask(self, op, h1=0, h2=0, h3=0, step=0, data=b"", size=0, silent=0):
         """Has the host do a call, which has to be done, or where an asking is silent not, and answers the size bytes that it hands out."""
-        self.process.stdin.write(struct.pack("=BBBBIII", op, h1, h2, 0, step, silent, len(data)) + data)
+        self.process.stdin.write(struct.pack("=BBBBIII", op, h1, h2, h3, step, silent, len(data)) + data)
         number, _ = struct.unpack("=II", self.read(8))
         if number != (kes.UNANSWERED if silent else kes.DONE):
             sys.exit(f"trace: the host answers a call with {number}")
@@ -125,20 +129,19 @@ class Life:
 
 
 class KeyLife(Life):
-    def __init__(self, driver, draw, h1, h2):
+    def __init__(self, driver, draw, *heights):
         super().__init__(driver, draw)
-        self.heights, self.seed, self.name = (h1, h2), draw.randbytes(32), f"heights {h1} and {h2}"
-        self.size = kes.signature_size(h1, h2)
+        self.heights, self.seed, self.name = heights, draw.randbytes(32), "heights " + " and ".join(map(str, heights))
+        self.size = kes.signature_size(*heights)
 
     def make(self, silent=0):
-        self.host.ask(MAKE, *self.heights, data=self.seed, silent=silent)
+        self.host.ask(MAKE if len(self.heights) == 2 else MAKE3, *self.heights, data=self.seed, silent=silent)
 
     def askings(self, step):
-        """How often a move to this step asks Ed25519."""
-        h2, now = self.heights[1], self.step
-        if now >> h2 == step >> h2:
-            return 2 ** kes.highest_difference(now, step)
-        return 2 ** kes.highest_difference(now >> h2, step >> h2) + 2**h2 + 1
+        """How often a move to this step asks Ed25519: for the half that the topmost tree that moves enters, and for all and a root of each below."""
+        now, then = kes.steps_of(self.heights, self.step), kes.steps_of(self.heights, step)
+        top = next(n for n, (a, b) in enumerate(zip(now, then)) if a != b)
+        return 2 ** kes.highest_difference(now[top], then[top]) + sum(2**h + 1 for h in self.heights[top + 1 :])
 
     def fail_each(self, step):
         """The calls that come next."""
@@ -146,7 +149,7 @@ class KeyLife(Life):
         self.fail(1, lambda silent: self.host.ask(SIGN, data=self.draw.randbytes(40), size=self.size, silent=silent))
 
     def fail_first(self):
-        self.fail_to_make(2 ** self.heights[0] + 2 ** self.heights[1] + 1, self.seed, self.make)
+        self.fail_to_make(sum(2**h + 1 for h in self.heights) - 1, self.seed, self.make)
 
     def move(self, step):
         self.host.ask(MOVE, step=step)
@@ -158,7 +161,7 @@ class KeyLife(Life):
         self.signatures.append((self.step, message, signature))
 
     def past(self):
-        return Past(self.seed, *self.heights, self.step, self.signatures)
+        return Past(self.seed, self.heights, self.step, self.signatures)
 
 
 class FairLife(Life):
@@ -222,23 +225,24 @@ class Blank:
     sign = staticmethod(lambda secret, message: bytes(64))
 
 
-def table(scheme, seed, h1, h2, step):
-    made = bytearray(kes.table_size(h1, h2))
-    scheme(Blank).make(h1, h2, bytearray(seed), made)
+def table(scheme, seed, heights, step):
+    made = bytearray(kes.table_size(*heights))
+    scheme(Blank).make_with(heights, bytearray(seed), made)
     scheme(Blank).free(made)
     scheme(Blank).move(made, step)
     return bytes(made)
 
 
 def planted():
-    """The model's table holds nothing of the past; with an error of 01's "Errors that look right" in it, it does."""
-    seed, place = bytes(range(32)), (2, 2, 6)
-    words = Past(seed, *place).words()
-    if found(table(kes.Scheme, seed, *place), words):
-        sys.exit("trace: what is called past stands in a right table")
-    for wrong in (SeedKept, SecretKept):
-        if not found(table(wrong, seed, *place), words):
-            sys.exit(f"trace: {wrong.__name__} is not noticed")
+    """The model's table holds nothing of the past; with an error of 01's "Errors that look right" in it, or the middle leaf's secret, it does."""
+    seed = bytes(range(32))
+    for heights, step, errors in [((2, 2), 6, (SeedKept, SecretKept)), ((1, 2, 1), 13, (SeedKept, SecretKept, MiddleSecretLeft))]:
+        words = Past(seed, heights, step).words()
+        if found(table(kes.Scheme, seed, heights, step), words):
+            sys.exit("trace: what is called past stands in a right table")
+        for wrong in errors:
+            if not found(table(wrong, seed, heights, step), words):
+                sys.exit(f"trace: {wrong.__name__} is not noticed")
 
 
 def fair_planted():
@@ -271,8 +275,8 @@ def main():
     with tempfile.TemporaryDirectory() as folder:
         for adapter in ("sodium", "openssl"):
             driver = program(folder, "trace", adapter, *(f"-Wl,--wrap={asking}" for asking in COUNTED[:2]))
-            for h1, h2, steps in HISTORIES:
-                lived(driver, draw, KeyLife, h1, h2, steps=steps)
+            for heights, steps in HISTORIES:
+                lived(driver, draw, KeyLife, *heights, steps=steps)
             for n, steps in FAIRS:
                 lived(driver, draw, FairLife, n, steps=steps)
 

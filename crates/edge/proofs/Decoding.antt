@@ -5,6 +5,7 @@ use mathlib.Core.List.{List}
 use Prim.Native.Nat.{ℕ, _+_, _*_, _/_, _%_, _≤_, _<_}
 use native.Mathlib.Omega.{arith}
 use lib.Arith.{digits-div, digits-mod}
+use Rattle.rules.specs.declared.Heights.{Heights}
 use Rattle.refusal.specs.Numbers.{numberOf}
 use Rattle.refusal.specs.declared.Refusal.{Refusal}
 use Rattle.refusal.specs.declared.Refusal.the-variants.{Height, SeedOrKey, Table, Length, NotLater, PastEnd, TooLong, Entries, Unanswered, Window, Lowered, NotReleased, Full, CardOrAmount, CountFull}
@@ -58,10 +59,10 @@ counted (Refused why) f z = let r = in-range why .0 in absurd (let q : ⊥ = ome
 done-counts : {w : ℕ} (a : Grown) → w ≡ toldWord (grownTold a) → ((n : ℕ) → a ≡ Done n → 0 < n) → w % 0x1_0000_0000 ≡ 0 → 0 < w / 0x1_0000_0000
 done-counts a e f z = rw (word-count a e) (counted a f (sym (word-number a e) ∙ z))
 
-pub make-counts : (h1 h2 : ℕ) (s d : List ℕ) (t : ℕ) {w : ℕ} {s′ d′ : List ℕ} {t′ : ℕ} → EdgeMakes h1 h2 s d t w s′ d′ t′ → w % 0x1_0000_0000 ≡ 0
+pub make-counts : (ht : Heights) (s d : List ℕ) (t : ℕ) {w : ℕ} {s′ d′ : List ℕ} {t′ : ℕ} → EdgeMakes ht s d t w s′ d′ t′ → w % 0x1_0000_0000 ≡ 0
     → 0 < w / 0x1_0000_0000
-make-counts h1 h2 s d t m z =
-    done-counts (makeTallied h1 h2 s d t .answer) (m .answers) (λ n e. make-positive h1 h2 s d (make-tallied-done h1 h2 s d t e)) z
+make-counts ht s d t m z =
+    done-counts (makeTallied ht s d t .answer) (m .answers) (λ n e. make-positive ht s d (make-tallied-done ht s d t e)) z
 
 pub move-counts : (d : List ℕ) (b t : ℕ) {w : ℕ} {d′ : List ℕ} {t′ : ℕ} → EdgeMoves d b t w d′ t′ → w % 0x1_0000_0000 ≡ 0 → 0 < w / 0x1_0000_0000
 move-counts d b t m z = done-counts (moveTallied d b t .answer) (m .answers) (λ n e. move-positive d b (move-tallied-done d b t e)) z

@@ -2,6 +2,7 @@
 use mathlib.Core.Path.{_≡_, sym, _∙_}
 use mathlib.Core.List.{List}
 use Prim.Native.Nat.{ℕ}
+use Rattle.rules.specs.declared.Heights.{Heights}
 use Rattle.edge.specs.Edge.{EdgeMakes, EdgeReads, EdgeMoves, EdgeCatchesUp, EdgeReleases, EdgeSigns, EdgeVerifies, EdgeHashes}
 use Rattle.edge.specs.EdgeFair.{EdgeFairMakes, EdgeFairMoves, EdgeFairSigns, EdgeFairVerifies}
 use Rattle.edge.specs.EdgePlain.{EdgeFills, EdgeReadsRoot, EdgeReadsPath, EdgePlainSigns}
@@ -12,9 +13,9 @@ use Rattle.summary.specs.declared.CardEntry.{CardEntry}
 joined : {A : Type 0} {x y z : A} → x ≡ z → y ≡ z → x ≡ y
 joined p q = p ∙ sym q
 
-pub make-once : (h1 h2 : ℕ) (s d : List ℕ) (t : ℕ) {a b : ℕ} {s₁ s₂ d₁ d₂ : List ℕ} {t₁ t₂ : ℕ} → EdgeMakes h1 h2 s d t a s₁ d₁ t₁
-    → EdgeMakes h1 h2 s d t b s₂ d₂ t₂ → (a ≡ b) × (s₁ ≡ s₂) × (d₁ ≡ d₂) × (t₁ ≡ t₂)
-make-once h1 h2 s d t x y = (
+pub make-once : (ht : Heights) (s d : List ℕ) (t : ℕ) {a b : ℕ} {s₁ s₂ d₁ d₂ : List ℕ} {t₁ t₂ : ℕ} → EdgeMakes ht s d t a s₁ d₁ t₁
+    → EdgeMakes ht s d t b s₂ d₂ t₂ → (a ≡ b) × (s₁ ≡ s₂) × (d₁ ≡ d₂) × (t₁ ≡ t₂)
+make-once ht s d t x y = (
   joined (x .answers) (y .answers),
   joined (x .zeroes) (y .zeroes),
   joined (x .leaves) (y .leaves),
@@ -45,9 +46,9 @@ sign-once d m out t x y = (
   joined (x .tallies) (y .tallies),
 )
 
-pub verify-once : (h1 h2 : ℕ) (k : List ℕ) (t : ℕ) (m g : List ℕ) {a b : ℕ} {k₁ k₂ m₁ m₂ g₁ g₂ : List ℕ} → EdgeVerifies h1 h2 k t m g a k₁ m₁ g₁
-    → EdgeVerifies h1 h2 k t m g b k₂ m₂ g₂ → (a ≡ b) × (k₁ ≡ k₂) × (m₁ ≡ m₂) × (g₁ ≡ g₂)
-verify-once h1 h2 k t m g x y = (
+pub verify-once : (ht : Heights) (k : List ℕ) (t : ℕ) (m g : List ℕ) {a b : ℕ} {k₁ k₂ m₁ m₂ g₁ g₂ : List ℕ} → EdgeVerifies ht k t m g a k₁ m₁ g₁
+    → EdgeVerifies ht k t m g b k₂ m₂ g₂ → (a ≡ b) × (k₁ ≡ k₂) × (m₁ ≡ m₂) × (g₁ ≡ g₂)
+verify-once ht k t m g x y = (
   joined (x .numbers) (y .numbers),
   joined (x .keeps-key) (y .keeps-key),
   joined (x .keeps-message) (y .keeps-message),

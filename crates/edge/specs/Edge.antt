@@ -6,17 +6,18 @@ use Rattle.blake2b.specs.Calls as blake2b
 use Rattle.refusal.specs.Numbers.{answerNumber}
 use Rattle.rules.specs.Answers.{Told, grownTold, verdictNumber}
 use Rattle.rules.specs.Calls.{makeOutcome, makeTallied, keyOutcome, moveOutcome, moveTallied, catchOutcome, catchTallied, releaseOutcome, signOutcome, signTallied, verifyOutcome}
+use Rattle.rules.specs.declared.Heights.{Heights}
 use Rattle.ed25519.specs.Tally.{Run, asked}
 
 -- make, move and catch-up answer number + 2^32 * count
 abbrev pub toldWord : Told → ℕ
 toldWord x = x .number + 0x1_0000_0000 * x .count
 
-pub record EdgeMakes (h1 h2 : ℕ) (s d : List ℕ) (t answer : ℕ) (s′ d′ : List ℕ) (t′ : ℕ) : Type 0 where
-  pub answers : answer ≡ toldWord (grownTold (makeTallied h1 h2 s d t .answer))
-  pub zeroes : s′ ≡ makeTallied h1 h2 s d t .seed
-  pub leaves : d′ ≡ makeTallied h1 h2 s d t .table
-  pub tallies : t′ ≡ asked (makeOutcome h1 h2 s d .calls) t .tally
+pub record EdgeMakes (ht : Heights) (s d : List ℕ) (t answer : ℕ) (s′ d′ : List ℕ) (t′ : ℕ) : Type 0 where
+  pub answers : answer ≡ toldWord (grownTold (makeTallied ht s d t .answer))
+  pub zeroes : s′ ≡ makeTallied ht s d t .seed
+  pub leaves : d′ ≡ makeTallied ht s d t .table
+  pub tallies : t′ ≡ asked (makeOutcome ht s d .calls) t .tally
 
 pub record EdgeReads (d out : List ℕ) (number : ℕ) (d′ out′ : List ℕ) : Type 0 where
   pub numbers : number ≡ answerNumber (keyOutcome d out .answer)
@@ -44,11 +45,11 @@ pub record EdgeSigns (d m out : List ℕ) (t number : ℕ) (d′ m′ out′ : L
   pub leaves : out′ ≡ signTallied d m out t .out
   pub tallies : t′ ≡ asked (signOutcome d m out .calls) t .tally
 
-pub record EdgeVerifies (h1 h2 : ℕ) (k : List ℕ) (t : ℕ) (m x : List ℕ) (number : ℕ) (k′ m′ x′ : List ℕ) : Type 0 where
-  pub numbers : number ≡ verdictNumber (verifyOutcome h1 h2 k t m x .answer)
-  pub keeps-key : k′ ≡ verifyOutcome h1 h2 k t m x .key
-  pub keeps-message : m′ ≡ verifyOutcome h1 h2 k t m x .message
-  pub keeps-signature : x′ ≡ verifyOutcome h1 h2 k t m x .signature
+pub record EdgeVerifies (ht : Heights) (k : List ℕ) (t : ℕ) (m x : List ℕ) (number : ℕ) (k′ m′ x′ : List ℕ) : Type 0 where
+  pub numbers : number ≡ verdictNumber (verifyOutcome ht k t m x .answer)
+  pub keeps-key : k′ ≡ verifyOutcome ht k t m x .key
+  pub keeps-message : m′ ≡ verifyOutcome ht k t m x .message
+  pub keeps-signature : x′ ≡ verifyOutcome ht k t m x .signature
 
 pub record EdgeHashes (m out : List ℕ) (number : ℕ) (m′ out′ : List ℕ) : Type 0 where
   pub numbers : number ≡ answerNumber (blake2b.hashOutcome m out .answer)

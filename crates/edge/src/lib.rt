@@ -1,10 +1,12 @@
 // The C edge: each answer as its number, on plain numbers and byte slices. include/kes.h declares these functions.
+ghost use Rattle.rules.specs.Trees.{two};
 ghost use Rattle.edge.specs.Edge.{EdgeCatchesUp, EdgeHashes, EdgeMakes, EdgeMoves, EdgeReads, EdgeReleases, EdgeSigns, EdgeVerifies};
 
 mod card_index;
 mod fair_day;
 mod numbers;
 mod plain_engine;
+mod three_trees;
 
 use crate::numbers::answered;
 use crate::numbers::judged;
@@ -18,7 +20,7 @@ pub extern "C" fn kes_make(
     table: &mut [u8],
     tally: &mut u64,
 ) -> u64
-    ensures { λ r. ⌜ EdgeMakes h1 h2 (now (seed .entry)) (now (table .entry)) (now (tally .entry)) r (now (seed .exit)) (now (table .exit)) (now (tally .exit)) ⌝ }
+    ensures { λ r. ⌜ EdgeMakes (two h1 h2) (now (seed .entry)) (now (table .entry)) (now (tally .entry)) r (now (seed .exit)) (now (table .exit)) (now (tally .exit)) ⌝ }
 {
     told(key::make(h1, h2, seed, table, tally))
 }
@@ -72,7 +74,7 @@ pub extern "C" fn kes_verify(
     message: &[u8],
     signature: &[u8],
 ) -> u32
-    ensures { λ r. ⌜ EdgeVerifies h1 h2 (now (key .entry)) step (now (message .entry)) (now (signature .entry)) r (now (key .exit)) (now (message .exit)) (now (signature .exit)) ⌝ }
+    ensures { λ r. ⌜ EdgeVerifies (two h1 h2) (now (key .entry)) step (now (message .entry)) (now (signature .entry)) r (now (key .exit)) (now (message .exit)) (now (signature .exit)) ⌝ }
 {
     judged(key::verify(h1, h2, key, step, message, signature))
 }

@@ -3,6 +3,7 @@ use mathlib.Core.Path.{_≡_, sym, ap, _∙_}
 use mathlib.Core.List.{List}
 use Prim.Native.Nat.{ℕ, _+_, _≤_, _<_}
 use borrow.Author.Tests.{lt-ltb, le-ltb, eq-eqb, ne-eqb}
+use Rattle.rules.specs.Trees.{two}
 use Rattle.rules.specs.Calls.{verifyOutcome}
 use Rattle.rules.specs.declared.Verdict.{Verdict}
 use Rattle.records.specs.declared.FirstLine.{FirstLine}
@@ -17,7 +18,7 @@ use Rattle.judging.specs.declared.Judged.the-variants.{Malformed}
 use Rattle.records.specs.Records.{LaterLine, malformed, recorded, message}
 use Rattle.judging.specs.Judging.{isAccepted, signatureGood, standing, caseAs, caseOf}
 
-pub good-by : (h : FirstLine) (r : Record) (s : List ℕ) {m : List ℕ} {v w : Verdict} → m ≡ message (h .edition) r → v ≡ verifyOutcome (h .h1) (h .h2) (h .key) (r .step) m s .answer → v ≡ w → isAccepted w ≡ signatureGood h r s
+pub good-by : (h : FirstLine) (r : Record) (s : List ℕ) {m : List ℕ} {v w : Verdict} → m ≡ message (h .edition) r → v ≡ verifyOutcome (two (h .h1) (h .h2)) (h .key) (r .step) m s .answer → v ≡ w → isAccepted w ≡ signatureGood h r s
 unfolding signatureGood
 good-by h r s em ev ew = ap isAccepted (sym ew ∙ ev) ∙ rw em
 

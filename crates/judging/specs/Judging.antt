@@ -8,6 +8,7 @@ use lib.Dec.{ltb, eqb}
 use Rattle.fields.specs.Tests.{pick}
 use Rattle.text.specs.Columns.{columns}
 use Rattle.lines.specs.Lines.{Line, whole, long, unended}
+use Rattle.rules.specs.Trees.{two}
 use Rattle.rules.specs.Calls.{verifyOutcome}
 use Rattle.rules.specs.declared.Verdict.{Verdict}
 use Rattle.rules.specs.declared.Verdict.the-variants.{Accepted, Rejected, Refused}
@@ -30,7 +31,7 @@ isAccepted (Refused why) = false
 
 -- a record's signature is accepted under the header
 unfoldable pub signatureGood : FirstLine → Record → List ℕ → Bool
-signatureGood h r signature = isAccepted (verifyOutcome (h .h1) (h .h2) (h .key) (r .step) (message (h .edition) r) signature .answer)
+signatureGood h r signature = isAccepted (verifyOutcome (two (h .h1) (h .h2)) (h .key) (r .step) (message (h .edition) r) signature .answer)
 
 -- how a record stands to the last good line; where the order is free, nothing is held against it
 unfoldable pub standing : Order → Books → Record → Standing

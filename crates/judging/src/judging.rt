@@ -2,6 +2,7 @@
 ghost use mathlib.Core.Path.{_≡_};
 ghost use lib.ListN.{length};
 ghost use Rattle.text.specs.Columns.{columns};
+ghost use Rattle.rules.specs.Trees.{two};
 ghost use Rattle.rules.specs.Table.{signatureSize};
 ghost use Rattle.records.specs.Inside.{LowHeights};
 ghost use Rattle.records.specs.Records.{recordIn, InRange};
@@ -66,7 +67,7 @@ fn judge_in(
     line: &[u8],
     signature: &mut [u8],
 ) -> Judged
-    requires { ⌜ LowHeights header × Sound books × (length (now signature) ≡ signatureSize (header .h1) (header .h2)) ⌝ }
+    requires { ⌜ LowHeights header × Sound books × (length (now signature) ≡ signatureSize (two (header .h1) (header .h2))) ⌝ }
     ensures { λ r. ⌜ r ≡ caseOf order header books (recordIn header (columns (now (line .entry)))) ⌝ }
 {
     let entry = read_record(header, line, signature);
@@ -87,7 +88,7 @@ pub fn judge(order: Order, header: FirstLine, books: Books, line: &[u8]) -> Judg
     ensures { λ _. ⌜ now (line .exit) ≡ now (line .entry) ⌝ }
 {
     let mut room = signature_room();
-    let n = key::layout::signature_size(header.h1 as usize, header.h2 as usize);
+    let n = key::layout::signature_size(header.h1, header.h2);
     judge_in(order, header, books, line, &mut room[0..n])
 }
 

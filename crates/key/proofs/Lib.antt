@@ -1,3 +1,3 @@
-pub mod Bodies
+pub mod Trees
 pub mod Fields
 pub mod Outcomes

@@ -24,13 +24,15 @@ use Rattle.tree.specs.declared.moving.Grew.the-variants as grew
 use Rattle.rules.specs.Part.{partSignature, partVerdict}
 use Rattle.rules.specs.Table.{headerSize, steps, tableSize, signatureSize, header, atStep, headerBytes, windowAt, bodyIn, headerOf}
 use Rattle.key.specs.Inside.{grownOf, answerOf, lowers, SetsNumber}
-use Rattle.rules.specs.Calls.{tooHigh, makeWork, Makes, MakeOutcome, notMade, made, makeOutcome, makeTallied}
+use Rattle.rules.specs.Trees.{belowOf, tooHigh}
+use Rattle.rules.specs.Calls.{makeWork, Makes, MakeOutcome, notMade, made, makeOutcome, makeTallied}
 use Rattle.rules.specs.Calls.{Reads, KeyOutcome, notRead, keyRead, keyUnder, keyOutcome}
 use Rattle.rules.specs.Calls.{moveWork, Moves, MoveOutcome, notMoved, moved, moveUnder, moveOutcome, moveTallied}
 use Rattle.rules.specs.Calls.{Releases, ReleaseOutcome, refusedRelease, released, stoodFor, releaseUnder, releaseOutcome}
 use Rattle.rules.specs.Calls.{CatchesUp, stayed, catchOutcome, catchTallied}
 use Rattle.rules.specs.Calls.{Signs, SignOutcome, notSigned, signed, signUnder, signOutcome, signTallied}
 use Rattle.rules.specs.Calls.{Verifies, verdictOf, verifyOutcome}
+use Rattle.rules.specs.declared.Heights.{Heights}
 use Rattle.rules.specs.declared.Header.{Header}
 use Rattle.rules.specs.declared.Found.{Found}
 use Rattle.rules.specs.declared.Found.the-variants as found
@@ -49,56 +51,56 @@ abbrev pub relaid : List ℕ → List ℕ → List ℕ
 relaid d ys = take headerSize d ++ (ys ++ drop (length d - headerSize) (drop headerSize d))
 
 -- make, under the tally t
-module _ (h1 h2 : ℕ) (s d : List ℕ) (t : ℕ) where
-  makes : (o : MakeOutcome) {a : Grown} {s′ d′ : List ℕ} {t′ : ℕ} → makeOutcome h1 h2 s d ≡ o → a ≡ pick (asked (o .calls) t .given) o (notMade Unanswered s d) .answer
+module _ (ht : Heights) (s d : List ℕ) (t : ℕ) where
+  makes : (o : MakeOutcome) {a : Grown} {s′ d′ : List ℕ} {t′ : ℕ} → makeOutcome ht s d ≡ o → a ≡ pick (asked (o .calls) t .given) o (notMade Unanswered s d) .answer
       → s′ ≡ pick (asked (o .calls) t .given) o (notMade Unanswered s d) .seed → d′ ≡ pick (asked (o .calls) t .given) o (notMade Unanswered s d) .table
-      → t′ ≡ asked (o .calls) t .tally → Makes h1 h2 s d t a s′ d′ t′
+      → t′ ≡ asked (o .calls) t .tally → Makes ht s d t a s′ d′ t′
   unfolding makeTallied
   makes o e ea es ed et = record { answers = ea ∙ rw e; zeroes = es ∙ rw e; leaves = ed ∙ rw e; tallies = et ∙ rw e }
 
-  not-made : (why : Refusal) → makeOutcome h1 h2 s d ≡ notMade why s d → Makes h1 h2 s d t (grown.Refused why) s d t
+  not-made : (why : Refusal) → makeOutcome ht s d ≡ notMade why s d → Makes ht s d t (grown.Refused why) s d t
   unfolding asked
   not-made why e = makes (notMade why s d) e refl refl refl refl
 
-  pub make-high : tooHigh h1 h2 ≡ true → Makes h1 h2 s d t (grown.Refused Height) s d t
+  pub make-high : tooHigh ht ≡ true → Makes ht s d t (grown.Refused Height) s d t
   unfolding makeOutcome
   make-high e = not-made Height (rw e)
 
-  module _ (low : tooHigh h1 h2 ≡ false) where
-    pub make-seed : (length s ≡ 32 → ⊥) → Makes h1 h2 s d t (grown.Refused SeedOrKey) s d t
+  module _ (low : tooHigh ht ≡ false) where
+    pub make-seed : (length s ≡ 32 → ⊥) → Makes ht s d t (grown.Refused SeedOrKey) s d t
     unfolding makeOutcome
     make-seed f = not-made SeedOrKey (rw (low, ne-eqb (length s) 32 f))
 
-    module _ (ls : length s ≡ 32) {n : ℕ} (en : n ≡ tableSize h1 h2) where
-      pub make-length : (length d ≡ n → ⊥) → Makes h1 h2 s d t (grown.Refused Length) s d t
+    module _ (ls : length s ≡ 32) {n : ℕ} (en : n ≡ tableSize ht) where
+      pub make-length : (length d ≡ n → ⊥) → Makes ht s d t (grown.Refused Length) s d t
       unfolding makeOutcome
-      make-length f = not-made Length (rw (low, eq-eqb (length s) 32 ls, ne-eqb (length d) (tableSize h1 h2) (λ e. f (e ∙ sym en))))
+      make-length f = not-made Length (rw (low, eq-eqb (length s) 32 ls, ne-eqb (length d) (tableSize ht) (λ e. f (e ∙ sym en))))
 
       module _ (ld : length d ≡ n) {from : List ℕ} (ef : from ≡ part s 0 32) {a : Grew} {t′ : ℕ} {ys : List ℕ}
-          (w : Commits (makeWork h1 h2 from) t a t′ (part d headerSize (length d - headerSize)) ys) where
-        makes-on : makeOutcome h1 h2 s d ≡ made h1 h2 (makeWork h1 h2 s)
+          (w : Commits (makeWork ht from) t a t′ (part d headerSize (length d - headerSize)) ys) where
+        makes-on : makeOutcome ht s d ≡ made ht (makeWork ht s)
         unfolding makeOutcome
-        makes-on = rw (low, eq-eqb (length s) 32 ls, eq-eqb (length d) (tableSize h1 h2) (ld ∙ en))
+        makes-on = rw (low, eq-eqb (length s) 32 ls, eq-eqb (length d) (tableSize ht) (ld ∙ en))
 
-        made-work : Commits (makeWork h1 h2 s) t a t′ (bodyIn d) ys
+        made-work : Commits (makeWork ht s) t a t′ (bodyIn d) ys
         made-work = rw (← take-all 32 s (omega arith), ← ef, ← tail-whole d headerSize) w
 
-        pub make-unanswered : a ≡ grew.Unanswered → Makes h1 h2 s d t (grown.Refused Unanswered) s (relaid d ys) t′
+        pub make-unanswered : a ≡ grew.Unanswered → Makes ht s d t (grown.Refused Unanswered) s (relaid d ys) t′
         make-unanswered ea =
             let w′ = made-work in
-            let y = none-given (asked (makeWork h1 h2 s .calls) t .given) (makeWork h1 h2 s .count) (sym ea ∙ w′ .answers) in
+            let y = none-given (asked (makeWork ht s .calls) t .given) (makeWork ht s .count) (sym ea ∙ w′ .answers) in
             let kept : ys ≡ bodyIn d = w′ .leaves .is ∙ rw y in
-            makes (made h1 h2 (makeWork h1 h2 s)) makes-on (rw y) (rw y) (tail-back d ys headerSize ∙ rw (y, kept) (take-append-drop headerSize d)) (w′ .tallies)
+            makes (made ht (makeWork ht s)) makes-on (rw y) (rw y) (tail-back d ys headerSize ∙ rw (y, kept) (take-append-drop headerSize d)) (w′ .tallies)
 
-        pub make-done : {k : ℕ} {s′ d′ : List ℕ} → a ≡ grew.Count k → d′ ≡ headerBytes (header h1 h2 0 0 0) ++ bodyIn (relaid d ys) → s′ ≡ replicate (length s) 0
-            → Makes h1 h2 s d t (grown.Done k) s′ d′ t′
+        pub make-done : {k : ℕ} {s′ d′ : List ℕ} → a ≡ grew.Count k → d′ ≡ headerBytes (header ht 0 0 0) ++ bodyIn (relaid d ys) → s′ ≡ replicate (length s) 0
+            → Makes ht s d t (grown.Done k) s′ d′ t′
         make-done {k} ea ed es =
             let w′ = made-work in
-            let y = count-given (asked (makeWork h1 h2 s .calls) t .given) (makeWork h1 h2 s .count) (sym ea ∙ w′ .answers) in
-            let ek : grew.Count k ≡ grew.Count (makeWork h1 h2 s .count) = sym ea ∙ w′ .answers ∙ rw y in
-            let c : k ≡ makeWork h1 h2 s .count = cc ek in
-            let ey : ys ≡ makeWork h1 h2 s .body = w′ .leaves .is ∙ rw y in
-            makes (made h1 h2 (makeWork h1 h2 s)) makes-on (rw (y, c)) (rw y (es ∙ rw ls zeros-are))
+            let y = count-given (asked (makeWork ht s .calls) t .given) (makeWork ht s .count) (sym ea ∙ w′ .answers) in
+            let ek : grew.Count k ≡ grew.Count (makeWork ht s .count) = sym ea ∙ w′ .answers ∙ rw y in
+            let c : k ≡ makeWork ht s .count = cc ek in
+            let ey : ys ≡ makeWork ht s .body = w′ .leaves .is ∙ rw y in
+            makes (made ht (makeWork ht s)) makes-on (rw (y, c)) (rw y (es ∙ rw ls zeros-are))
             (ed ∙ rw (y, drop-back d ys headerSize (omega arith), ey)) (w′ .tallies)
 
 -- read key
@@ -120,7 +122,7 @@ module _ (d out : List ℕ) where
     unfolding keyOutcome keyUnder
     key-length n = reads (notRead Length d out) (rw (← e, g, ne-eqb (length out) 32 n)) refl refl refl
 
-    pub key-done : {k out′ : List ℕ} → length out ≡ 32 → k ≡ rootIn (part d headerSize (length d - headerSize)) (x .h1) → out′ ≡ put out 0 32 k
+    pub key-done : {k out′ : List ℕ} → length out ≡ 32 → k ≡ rootIn (part d headerSize (length d - headerSize)) (x .heights .top) → out′ ≡ put out 0 32 k
         → Reads d out answer.Done d out′
     unfolding keyOutcome keyUnder
     key-done {k = k} l ek eo =
@@ -142,30 +144,30 @@ module _ (d : List ℕ) (b t : ℕ) where
   unfolding moveOutcome moveUnder
   move-refused {why = why} e r ea = rw (ea, r) (refused why (rw (← e, r)))
 
-  module _ {f : Found} {x : Header} (e : f ≡ headerOf d) (g : f ≡ found.Good x) {n : ℕ} (en : n ≡ steps (x .h1) (x .h2)) where
+  module _ {f : Found} {x : Header} (e : f ≡ headerOf d) (g : f ≡ found.Good x) {n : ℕ} (en : n ≡ steps (x .heights)) where
     pub move-late : n ≤ b → Moves d b t (grown.Refused PastEnd) d t
     unfolding moveOutcome moveUnder
-    move-late p = refused PastEnd (rw (← e, g, le-leb (steps (x .h1) (x .h2)) b (omega arith)))
+    move-late p = refused PastEnd (rw (← e, g, le-leb (steps (x .heights)) b (omega arith)))
 
     module _ (u : b < n) where
       pub move-not-later : b ≤ x .step → Moves d b t (grown.Refused NotLater) d t
       unfolding moveOutcome moveUnder
-      move-not-later p = refused NotLater (rw (← e, g, lt-leb (steps (x .h1) (x .h2)) b (omega arith), le-leb b (x .step) p))
+      move-not-later p = refused NotLater (rw (← e, g, lt-leb (steps (x .heights)) b (omega arith), le-leb b (x .step) p))
 
       pub move-first-waits : x .step < b → x .first < b → Moves d b t (grown.Refused NotReleased) d t
       unfolding moveOutcome moveUnder
-      move-first-waits p q = refused NotReleased (rw (← e, g, lt-leb (steps (x .h1) (x .h2)) b (omega arith), lt-leb b (x .step) p, lt-leb b (x .first) q))
+      move-first-waits p q = refused NotReleased (rw (← e, g, lt-leb (steps (x .heights)) b (omega arith), lt-leb b (x .step) p, lt-leb b (x .first) q))
 
       pub move-second-waits : x .step < b → b ≤ x .first → x .second < b → Moves d b t (grown.Refused NotReleased) d t
       unfolding moveOutcome moveUnder
       move-second-waits p q r =
-          refused NotReleased (rw (← e, g, lt-leb (steps (x .h1) (x .h2)) b (omega arith), lt-leb b (x .step) p, le-leb b (x .first) q, lt-leb b (x .second) r))
+          refused NotReleased (rw (← e, g, lt-leb (steps (x .heights)) b (omega arith), lt-leb b (x .step) p, le-leb b (x .first) q, lt-leb b (x .second) r))
 
       module _ (l : headerSize ≤ length d) (p : x .step < b) (v : b ≤ x .first) (v′ : b ≤ x .second) {a : Grew} {t′ : ℕ} {ys : List ℕ}
           (w : Commits (moveWork x (part d headerSize (length d - headerSize)) b) t a t′ (part d headerSize (length d - headerSize)) ys) where
         moves-on : moveOutcome d b ≡ moved x b (moveWork x (bodyIn d) b)
         unfolding moveOutcome moveUnder
-        moves-on = rw (← e, g, lt-leb (steps (x .h1) (x .h2)) b (omega arith), lt-leb b (x .step) p, le-leb b (x .first) v, le-leb b (x .second) v′)
+        moves-on = rw (← e, g, lt-leb (steps (x .heights)) b (omega arith), lt-leb b (x .step) p, le-leb b (x .first) v, le-leb b (x .second) v′)
 
         work : Commits (moveWork x (bodyIn d) b) t a t′ (bodyIn d) ys
         work = rw (← tail-whole d headerSize) w
@@ -201,8 +203,8 @@ module _ (d : List ℕ) (b t : ℕ) where
     unfolding catchOutcome moveUnder
     catch-stays l =
         let w = whole d (sym e ∙ g) in
-        let u : b < steps (x .h1) (x .h2) = let s = w .soon in omega arith in
-        catches (stayed d) refl refl (rw (← e, g, lt-leb (steps (x .h1) (x .h2)) b u, le-leb b (x .step) l)) refl
+        let u : b < steps (x .heights) = let s = w .soon in omega arith in
+        catches (stayed d) refl refl (rw (← e, g, lt-leb (steps (x .heights)) b u, le-leb b (x .step) l)) refl
 
     -- and past it the two calls are one
     same-call : x .step < b → moveOutcome d b ≡ catchOutcome d b
@@ -239,7 +241,7 @@ module _ (d : List ℕ) (w n : ℕ) where
     release-no-window l = gives (refusedRelease Window d) (rw (← e, g, lt-ltb 1 w l)) refl refl
 
     -- by window 0, and by window 1
-    module _ {end : ℕ} (en : end ≡ steps (x .h1) (x .h2)) {a : Answer} {d′ : List ℕ} where
+    module _ {end : ℕ} (en : end ≡ steps (x .heights)) {a : Answer} {d′ : List ℕ} where
       set : (at stood : ℕ) → SetsNumber d at stood n end a d′ → w ≤ 1 → at ≡ windowAt w → stood ≡ stoodFor x w → Releases d w n a d′
       unfolding releaseOutcome releaseUnder
       set at stood k l ea es = go (lowers stood n end) refl
@@ -282,16 +284,16 @@ module _ (d m out : List ℕ) (t : ℕ) where
     unfolding signOutcome signUnder
     sign-long p = not-signed TooLong (rw (← e, g, lt-ltb limit (length m) p))
 
-    module _ (lm : length m ≤ limit) {n : ℕ} (en : n ≡ signatureSize (x .h1) (x .h2)) where
+    module _ (lm : length m ≤ limit) {n : ℕ} (en : n ≡ signatureSize (x .heights)) where
       pub sign-length : (length out ≡ n → ⊥) → Signs d m out t (answer.Refused Length) d m out t
       unfolding signOutcome signUnder
-      sign-length p = not-signed Length (rw (← e, g, le-ltb limit (length m) lm, ne-eqb (length out) (signatureSize (x .h1) (x .h2)) (λ q. p (q ∙ sym en))))
+      sign-length p = not-signed Length (rw (← e, g, le-ltb limit (length m) lm, ne-eqb (length out) (signatureSize (x .heights)) (λ q. p (q ∙ sym en))))
 
       module _ (l : length out ≡ n) {y : Bool} {t′ : ℕ} {out′ : List ℕ} (k : Asks 1 t y t′)
-          (w : Leaves y (partSignature (part d headerSize (length d - headerSize)) (x .h1) (x .h2 ∷ []) (x .step) m) out out′) where
+          (w : Leaves y (partSignature (part d headerSize (length d - headerSize)) (x .heights .top) (belowOf (x .heights)) (x .step) m) out out′) where
         signs-on : signOutcome d m out ≡ signed x d m
         unfolding signOutcome signUnder
-        signs-on = rw (← e, g, le-ltb limit (length m) lm, eq-eqb (length out) (signatureSize (x .h1) (x .h2)) (l ∙ en))
+        signs-on = rw (← e, g, le-ltb limit (length m) lm, eq-eqb (length out) (signatureSize (x .heights)) (l ∙ en))
 
         pub sign-unanswered : not y ≡ true → Signs d m out t (answer.Refused Unanswered) d m out′ t′
         sign-unanswered q =
@@ -304,45 +306,45 @@ module _ (d m out : List ℕ) (t : ℕ) where
             signs (signed x d m) signs-on (rw n) (rw n) (rw n) (w .is ∙ rw (n, not-false y q, tail-whole d headerSize)) (k .leaves)
 
 -- verify
-module _ (h1 h2 : ℕ) (k : List ℕ) (t : ℕ) (m x : List ℕ) where
-  verifies : {a : Verdict} → a ≡ verdictOf h1 h2 k t m x → Verifies h1 h2 k t m x a k m x
+module _ (ht : Heights) (k : List ℕ) (t : ℕ) (m x : List ℕ) where
+  verifies : {a : Verdict} → a ≡ verdictOf ht k t m x → Verifies ht k t m x a k m x
   unfolding verifyOutcome
   verifies e = record { answers = e; keeps-key = refl; keeps-message = refl; keeps-signature = refl }
 
-  pub verify-high : tooHigh h1 h2 ≡ true → Verifies h1 h2 k t m x (verdict.Refused Height) k m x
+  pub verify-high : tooHigh ht ≡ true → Verifies ht k t m x (verdict.Refused Height) k m x
   unfolding verdictOf
   verify-high e = verifies (rw e)
 
-  module _ (low : tooHigh h1 h2 ≡ false) where
-    pub verify-key : (length k ≡ 32 → ⊥) → Verifies h1 h2 k t m x (verdict.Refused SeedOrKey) k m x
+  module _ (low : tooHigh ht ≡ false) where
+    pub verify-key : (length k ≡ 32 → ⊥) → Verifies ht k t m x (verdict.Refused SeedOrKey) k m x
     unfolding verdictOf
     verify-key f = verifies (rw (low, ne-eqb (length k) 32 f))
 
-    module _ (lk : length k ≡ 32) {n : ℕ} (en : n ≡ signatureSize h1 h2) where
-      pub verify-length : (length x ≡ n → ⊥) → Verifies h1 h2 k t m x (verdict.Refused Length) k m x
+    module _ (lk : length k ≡ 32) {n : ℕ} (en : n ≡ signatureSize ht) where
+      pub verify-length : (length x ≡ n → ⊥) → Verifies ht k t m x (verdict.Refused Length) k m x
       unfolding verdictOf
-      verify-length f = verifies (rw (low, eq-eqb (length k) 32 lk, ne-eqb (length x) (signatureSize h1 h2) (λ e. f (e ∙ sym en))))
+      verify-length f = verifies (rw (low, eq-eqb (length k) 32 lk, ne-eqb (length x) (signatureSize ht) (λ e. f (e ∙ sym en))))
 
       module _ (lx : length x ≡ n) where
-        pub verify-long : limit < length m → Verifies h1 h2 k t m x (verdict.Refused TooLong) k m x
+        pub verify-long : limit < length m → Verifies ht k t m x (verdict.Refused TooLong) k m x
         unfolding verdictOf
-        verify-long p = verifies (rw (low, eq-eqb (length k) 32 lk, eq-eqb (length x) (signatureSize h1 h2) (lx ∙ en), lt-ltb limit (length m) p))
+        verify-long p = verifies (rw (low, eq-eqb (length k) 32 lk, eq-eqb (length x) (signatureSize ht) (lx ∙ en), lt-ltb limit (length m) p))
 
-        module _ (lm : length m ≤ limit) {T : ℕ} (eT : T ≡ steps h1 h2) where
-          pub verify-late : T ≤ t → Verifies h1 h2 k t m x (verdict.Refused PastEnd) k m x
+        module _ (lm : length m ≤ limit) {T : ℕ} (eT : T ≡ steps ht) where
+          pub verify-late : T ≤ t → Verifies ht k t m x (verdict.Refused PastEnd) k m x
           unfolding verdictOf
           verify-late p =
               verifies
               (rw (
                 low,
                 eq-eqb (length k) 32 lk,
-                eq-eqb (length x) (signatureSize h1 h2) (lx ∙ en),
+                eq-eqb (length x) (signatureSize ht) (lx ∙ en),
                 le-ltb limit (length m) lm,
-                le-leb (steps h1 h2) t (omega arith),
+                le-leb (steps ht) t (omega arith),
               ))
 
-          pub verify-told : {root : List ℕ} {yes : Bool} {a : Verdict} → t < T → root ≡ part k 0 32 → yes ≡ partVerdict root h1 (h2 ∷ []) t m x
-              → a ≡ pick yes verdict.Accepted verdict.Rejected → Verifies h1 h2 k t m x a k m x
+          pub verify-told : {root : List ℕ} {yes : Bool} {a : Verdict} → t < T → root ≡ part k 0 32 → yes ≡ partVerdict root (ht .top) (belowOf ht) t m x
+              → a ≡ pick yes verdict.Accepted verdict.Rejected → Verifies ht k t m x a k m x
           unfolding verdictOf
           verify-told p er ey ea =
               let whole = er ∙ take-all 32 k (omega arith) in
@@ -350,8 +352,8 @@ module _ (h1 h2 : ℕ) (k : List ℕ) (t : ℕ) (m x : List ℕ) where
               (rw (
                 low,
                 eq-eqb (length k) 32 lk,
-                eq-eqb (length x) (signatureSize h1 h2) (lx ∙ en),
+                eq-eqb (length x) (signatureSize ht) (lx ∙ en),
                 le-ltb limit (length m) lm,
-                lt-leb (steps h1 h2) t (omega arith),
+                lt-leb (steps ht) t (omega arith),
               )
               (ea ∙ rw (ey, whole)))

@@ -1,12 +1,11 @@
-// The seven calls. Each checks in document 01's order, and writes nothing before all its checks have passed.
+// The seven calls; make and verify are there for two trees and for three. Each checks in document 01's order, and writes nothing before all its checks have passed.
+ghost use mathlib.Core.Bool.{true};
+ghost use mathlib.Core.Path.{_≡_};
 ghost use Prim.Native.Nat.{_+_, _≤_};
 ghost use lib.ListN.{length};
+ghost use Rattle.rules.specs.Trees.{two, three, twoOrThree};
 ghost use Rattle.rules.specs.Calls.{CatchesUp, Makes, Moves, Reads, Releases, Signs, Verifies};
 ghost use Rattle.key.specs.Inside.{SetsNumber};
-use crate::body::accepted;
-use crate::body::make_body;
-use crate::body::move_body;
-use crate::body::sign_body;
 use crate::header::answer_of;
 use crate::header::grown_of;
 use crate::header::put_header;
@@ -14,44 +13,60 @@ use crate::header::read_header;
 use crate::layout::FIRST_AT;
 use crate::layout::HEADER_SIZE;
 use crate::layout::SECOND_AT;
-use crate::layout::signature_size;
-use crate::layout::steps;
 use crate::layout::table_size;
+use crate::layout::three;
 use crate::layout::too_high;
+use crate::layout::two;
 use blake2b::LIMIT;
 use refusal::Answer;
 use refusal::Refusal;
 use rules::Found;
 use rules::Grown;
 use rules::Header;
+use rules::Heights;
 use rules::Verdict;
 use tree::Grew;
 
-// Makes a key of these heights from seed, in table. The lent seed becomes zeros.
+// Makes a key of two trees from seed, in table. The lent seed becomes zeros.
 pub fn make(h1: u64, h2: u64, seed: &mut [u8], table: &mut [u8], tally: &mut u64) -> Grown
-    ensures { λ r. ⌜ Makes h1 h2 (now (seed .entry)) (now (table .entry)) (now (tally .entry)) r (now (seed .exit)) (now (table .exit)) (now (tally .exit)) ⌝ }
+    ensures { λ r. ⌜ Makes (two h1 h2) (now (seed .entry)) (now (table .entry)) (now (tally .entry)) r (now (seed .exit)) (now (table .exit))
+        (now (tally .exit)) ⌝ }
 {
-    let h1 = h1 as usize;
-    let h2 = h2 as usize;
-    if too_high(h1, h2) {
+    let heights = two(h1, h2);
+    make_with(heights, seed, table, tally)
+}
+
+// The same of three trees.
+pub fn make3(h1: u64, h2: u64, h3: u64, seed: &mut [u8], table: &mut [u8], tally: &mut u64) -> Grown
+    ensures { λ r. ⌜ Makes (three h1 h2 h3) (now (seed .entry)) (now (table .entry)) (now (tally .entry)) r (now (seed .exit)) (now (table .exit))
+        (now (tally .exit)) ⌝ }
+{
+    let heights = three(h1, h2, h3);
+    make_with(heights, seed, table, tally)
+}
+
+fn make_with(heights: Heights, seed: &mut [u8], table: &mut [u8], tally: &mut u64) -> Grown
+    requires { ⌜ twoOrThree heights ≡ true ⌝ }
+    ensures { λ r. ⌜ Makes heights (now (seed .entry)) (now (table .entry)) (now (tally .entry)) r (now (seed .exit)) (now (table .exit)) (now (tally .exit)) ⌝ }
+{
+    if too_high(heights) {
         return Grown::Refused(Refusal::Height);
     }
     if seed.len() != 32 {
         return Grown::Refused(Refusal::SeedOrKey);
     }
-    if table.len() != table_size(h1, h2) {
+    if table.len() != table_size(heights) {
         return Grown::Refused(Refusal::Length);
     }
     let from = fields::get32(seed, 0);
-    let grown = make_body(from, h1, h2, &mut table[HEADER_SIZE..], tally);
+    let grown = part::make_part(from, heights, &mut table[HEADER_SIZE..], tally);
     let Grew::Count(count) = grown else {
         return Grown::Refused(Refusal::Unanswered);
     };
     put_header(
         table,
         Header {
-            h1,
-            h2,
+            heights,
             step: 0,
             first: 0,
             second: 0,
@@ -72,7 +87,8 @@ pub fn read_key(table: &[u8], out: &mut [u8]) -> Answer
     if out.len() != 32 {
         return Answer::Refused(Refusal::Length);
     }
-    let key = tree::root(&table[HEADER_SIZE..], header.h1);
+    let heights = header.heights;
+    let key = tree::root(&table[HEADER_SIZE..], heights.top);
     fields::put32(out, 0, key);
     Answer::Done
 }
@@ -86,7 +102,8 @@ pub fn move_to(table: &mut [u8], step: u64, tally: &mut u64) -> Grown
         return grown_of(found);
     };
     let step = step as usize;
-    let end = steps(header.h1, header.h2);
+    let heights = header.heights;
+    let end = part::steps(heights);
     if end <= step {
         return Grown::Refused(Refusal::PastEnd);
     }
@@ -102,17 +119,14 @@ pub fn move_to(table: &mut [u8], step: u64, tally: &mut u64) -> Grown
     if second < step {
         return Grown::Refused(Refusal::NotReleased);
     }
-    let grown = move_body(&mut table[HEADER_SIZE..], header, step, tally);
+    let grown = part::move_part(&mut table[HEADER_SIZE..], heights, old, step, tally);
     let Grew::Count(count) = grown else {
         return Grown::Refused(Refusal::Unanswered);
     };
-    let h1 = header.h1;
-    let h2 = header.h2;
     put_header(
         table,
         Header {
-            h1,
-            h2,
+            heights,
             step,
             first,
             second,
@@ -146,7 +160,8 @@ pub fn release(table: &mut [u8], window: u64, step: u64) -> Answer
         return answer_of(found);
     };
     let step = step as usize;
-    let end = steps(header.h1, header.h2);
+    let heights = header.heights;
+    let end = part::steps(heights);
     if 1 < window {
         return Answer::Refused(Refusal::Window);
     }
@@ -186,42 +201,68 @@ pub fn sign(table: &[u8], message: &[u8], out: &mut [u8], tally: &mut u64) -> An
     if LIMIT < message.len() {
         return Answer::Refused(Refusal::TooLong);
     }
-    if out.len() != signature_size(header.h1, header.h2) {
+    let heights = header.heights;
+    if out.len() != part::signature_size(heights) {
         return Answer::Refused(Refusal::Length);
     }
-    let given = sign_body(&table[HEADER_SIZE..], header, message, out, tally);
+    let step = header.step;
+    let given = part::sign_part(&table[HEADER_SIZE..], heights, step, message, out, tally);
     if !given {
         return Answer::Refused(Refusal::Unanswered);
     }
     Answer::Done
 }
 
-// Judges the signature over message at this step, under a verification key and its heights.
+// Judges the signature over message at this step, under a verification key and its two heights.
 pub fn verify(h1: u64, h2: u64, key: &[u8], step: u64, message: &[u8], signature: &[u8]) -> Verdict
-    ensures { λ r. ⌜ Verifies h1 h2 (now (key .entry)) step (now (message .entry)) (now (signature .entry)) r
+    ensures { λ r. ⌜ Verifies (two h1 h2) (now (key .entry)) step (now (message .entry)) (now (signature .entry)) r
         (now (key .exit)) (now (message .exit)) (now (signature .exit)) ⌝ }
 {
-    let h1 = h1 as usize;
-    let h2 = h2 as usize;
+    let heights = two(h1, h2);
+    judge(heights, key, step, message, signature)
+}
+
+// The same under its three.
+pub fn verify3(
+    h1: u64,
+    h2: u64,
+    h3: u64,
+    key: &[u8],
+    step: u64,
+    message: &[u8],
+    signature: &[u8],
+) -> Verdict
+    ensures { λ r. ⌜ Verifies (three h1 h2 h3) (now (key .entry)) step (now (message .entry)) (now (signature .entry)) r
+        (now (key .exit)) (now (message .exit)) (now (signature .exit)) ⌝ }
+{
+    let heights = three(h1, h2, h3);
+    judge(heights, key, step, message, signature)
+}
+
+fn judge(heights: Heights, key: &[u8], step: u64, message: &[u8], signature: &[u8]) -> Verdict
+    requires { ⌜ twoOrThree heights ≡ true ⌝ }
+    ensures { λ r. ⌜ Verifies heights (now (key .entry)) step (now (message .entry)) (now (signature .entry)) r
+        (now (key .exit)) (now (message .exit)) (now (signature .exit)) ⌝ }
+{
     let step = step as usize;
-    if too_high(h1, h2) {
+    if too_high(heights) {
         return Verdict::Refused(Refusal::Height);
     }
     if key.len() != 32 {
         return Verdict::Refused(Refusal::SeedOrKey);
     }
-    if signature.len() != signature_size(h1, h2) {
+    if signature.len() != part::signature_size(heights) {
         return Verdict::Refused(Refusal::Length);
     }
     if LIMIT < message.len() {
         return Verdict::Refused(Refusal::TooLong);
     }
-    let total = steps(h1, h2);
+    let total = part::steps(heights);
     if total <= step {
         return Verdict::Refused(Refusal::PastEnd);
     }
     let root = fields::get32(key, 0);
-    if accepted(root, h1, h2, step, message, signature) {
+    if part::accepted(root, heights, step, message, signature) {
         return Verdict::Accepted;
     }
     Verdict::Rejected

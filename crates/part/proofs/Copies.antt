@@ -18,8 +18,8 @@ use Rattle.tree.specs.declared.moving.Grew.{Grew}
 use Rattle.tree.specs.declared.moving.Grew.the-variants.{Count, Unanswered}
 use Rattle.tree.specs.Move.{movedTree, countMove, callsMove}
 use Rattle.rules.specs.Part.{total, outer, partAt, seamSize, countNewPart, callsNewPart, callsPart}
-use Rattle.rules.specs.Calls.{Work}
-use Rattle.part.specs.Inside.{Works, Commits, newWork, crossed, partWork, crossWork}
+use Rattle.rules.specs.Calls.{Work, newWork, partWork}
+use Rattle.part.specs.Inside.{Works, Commits, crossed, crossWork}
 use Rattle.part.proofs.Bodies.{moved-last, count-last, within-body, within-count, across-body, across-count}
 
 -- work of n module calls

@@ -1,27 +1,27 @@
 -- The list of heights below the top, a tree at a time; and what of a part follows from it, for code that has one tree, or one more than the part below.
 use mathlib.Core.Path.{_≡_, refl, ap}
 use mathlib.Core.List.{List, [], _∷_}
-use Prim.Native.Nat.{ℕ, zero, suc, _+_, _-_, _/_, _^_, _≤_, _<_}
+use Prim.Native.Nat.{ℕ, zero, suc, _+_, _-_, _*_, _/_, _^_, _≤_, _<_}
 use native.Mathlib.Omega.{arith}
 use Rattle.tree.specs.Tree.{treeSize}
 use Rattle.tree.specs.Sum.{sumSize}
 use Rattle.rules.specs.Part.{total, seamSize, partSize, sumsSize, rootsSize}
-use Rattle.part.specs.Heights.{listed}
+use Rattle.rules.specs.Trees.{listed}
 use Rattle.rules.proofs.Steps.{outer-lt}
 
 pub alone : (n a b : ℕ) → n ≡ 1 → listed n a b ≡ []
-unfolding listed
 alone n a b e = rw e
 
 pub fewer : (n a b : ℕ) → 1 < n → listed n a b ≡ a ∷ listed (n - 1) b 0
-unfolding listed
 fewer zero a b l = absurd (omega arith)
 fewer (suc zero) a b l = absurd (omega arith)
 fewer (suc (suc n)) a b l = let e : suc n ≡ suc (suc n) - 1 = omega arith in ap (λ (k : ℕ). a ∷ listed k b 0) e
 
-pub pair : (a : ℕ) → listed 2 a 0 ≡ a ∷ []
-unfolding listed
-pair a = refl
+-- the roots, by the number of trees
+pub roots-size : (n a b : ℕ) → rootsSize (listed n a b) ≡ 32 * (n - 1)
+roots-size zero a b = refl
+roots-size (suc zero) a b = refl
+roots-size (suc (suc n)) a b = let e = roots-size (suc n) b 0 in omega arith
 
 -- one tree alone
 module _ (h : ℕ) {hs : List ℕ} (e : hs ≡ []) where

@@ -1,22 +1,14 @@
--- The heights of a part's trees as the code passes them, by number; and the list of those below the top, which the rules of `Part` go over.
-use mathlib.Core.List.{List, [], _∷_}
-use Prim.Native.Nat.{ℕ, zero, suc, _≤_}
-use Rattle.rules.specs.Table.{maxHeight}
-use Rattle.part.specs.declared.heights.Heights.{Heights}
-
--- n trees in all, of which the second and the third have heights a and b
-unfoldable pub listed : ℕ → ℕ → ℕ → List ℕ
-listed zero a b = []
-listed (suc zero) a b = []
-listed (suc (suc n)) a b = a ∷ listed (suc n) b 0
-
-abbrev pub belowOf : Heights → List ℕ
-belowOf x = listed (x .trees) (x .second) (x .third)
+-- Which heights the code of a part takes, and the longest part of a key.
+use mathlib.Core.List.{[], _∷_}
+use Prim.Native.Nat.{ℕ, _≤_}
+use Rattle.rules.specs.Part.{partSize}
+use Rattle.rules.specs.Trees.{maxHeight, maxHeight3}
+use Rattle.rules.specs.declared.Heights.{Heights}
 
 -- one to three trees, none too high
 abbrev pub Fits : Heights → Type 0
 Fits x = (1 ≤ x .trees) × (x .trees ≤ 3) × (x .top ≤ maxHeight) × (x .second ≤ maxHeight) × (x .third ≤ maxHeight)
 
--- the longest part of a key: two trees as high as they may be
+-- the longest part of a key: three trees as high as three may be; two are shorter
 abbrev pub longest : ℕ
-longest = 2944
+longest = partSize maxHeight3 (maxHeight3 ∷ maxHeight3 ∷ [])

@@ -34,13 +34,7 @@ leavesAccept h [] m sums roots = leafAccepts m (take (sumSize h) sums)
 leavesAccept h (g ∷ hs) m sums roots =
     leafAccepts (take 32 roots) (take (sumSize h) sums) && leavesAccept g hs m (drop (sumSize h) sums) (drop 32 roots)
 
--- The work over a body that grows a new part, moves a part, and moves one from a step of its top tree to a later one.
-unfoldable pub newWork : List ℕ → ℕ → List ℕ → ℕ → Work
-newWork s h hs t = record { calls = callsNewPart h hs; count = countNewPart h hs t; body = partAt s h hs t }
-
-unfoldable pub partWork : List ℕ → ℕ → List ℕ → ℕ → ℕ → Work
-partWork d h hs a b = record { calls = callsPart h hs a b; count = countPart h hs a b; body = movedPart d h hs a b }
-
+-- The work over a body that moves a part from a step of its top tree to a later one.
 unfoldable pub crossWork : List ℕ → ℕ → ℕ → List ℕ → ℕ → ℕ → ℕ → Work
 crossWork d h g hs a b t =
     record { calls = callsMove h a b + (callsNewPart g hs + 1); count = countMove h a b + countNewPart g hs t; body = crossed d h g hs a b t }

@@ -3,13 +3,14 @@ ghost use mathlib.Core.Path.{_≡_};
 ghost use Prim.Native.Nat.{_+_, _^_, _<_, _≤_};
 ghost use lib.ListN.{length, drop};
 ghost use Rattle.rules.specs.Part.{total, sumsSize, rootsSize, partVerdict};
-ghost use Rattle.part.specs.Heights.{belowOf, Fits};
+ghost use Rattle.rules.specs.Trees.{belowOf};
+ghost use Rattle.part.specs.Heights.{Fits};
 ghost use Rattle.part.specs.Inside.{pathsFit, leavesAccept};
-use crate::heights::Heights;
 use crate::heights::below;
 use crate::heights::steps;
 use crate::heights::sums_size;
 use crate::layout::sum_size;
+use rules::Heights;
 
 // Whether the path of each sum signature leads to the root that the one above it signs. The sum signatures stand in signature from index at on, the roots from
 // index roots on.

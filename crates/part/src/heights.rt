@@ -1,34 +1,14 @@
 // The heights of a part's trees, from the top.
 ghost use mathlib.Core.Path.{_≡_};
-ghost use mathlib.Core.List.{[], _∷_};
+ghost use mathlib.Core.List.{_∷_};
 ghost use Prim.Native.Nat.{_+_, _*_, _^_, _<_, _≤_};
-ghost use Rattle.rules.specs.Part.{total, sumsSize};
-ghost use Rattle.rules.specs.Table.{maxHeight};
-ghost use Rattle.part.specs.Heights.{belowOf, Fits};
+ghost use Rattle.rules.specs.Part.{total, partSize, sumsSize, rootsSize};
+ghost use Rattle.rules.specs.Trees.{belowOf};
+ghost use Rattle.part.specs.Heights.{Fits};
+use crate::layout::seam_size;
 use crate::layout::sum_size;
-
-// How many trees there are, and the height of each. Where there are fewer than three, the last heights say nothing.
-pub struct Heights {
-    pub trees: usize,
-    pub top: usize,
-    pub second: usize,
-    pub third: usize,
-}
-
-// The heights of a key of two trees.
-pub fn two(h1: usize, h2: usize) -> Heights
-    requires { ⌜ (h1 ≤ maxHeight) × (h2 ≤ maxHeight) ⌝ }
-    ensures { λ r. ⌜ (r .top ≡ h1) × ((belowOf r ≡ h2 ∷ []) × Fits r) ⌝ }
-{
-    let trees: usize = 2;
-    let third: usize = 0;
-    Heights {
-        trees,
-        top: h1,
-        second: h2,
-        third,
-    }
-}
+use crate::layout::tree_size;
+use rules::Heights;
 
 // The heights of the part below the top tree.
 pub(crate) fn below(heights: Heights) -> Heights
@@ -62,11 +42,25 @@ fn total(heights: Heights) -> usize
 }
 
 // The number of steps.
-pub(crate) fn steps(heights: Heights) -> usize
+pub fn steps(heights: Heights) -> usize
     requires { ⌜ Fits heights ⌝ }
     ensures { λ r. ⌜ r ≡ 2 ^ total (heights .top) (belowOf heights) ⌝ }
 {
     1usize << total(heights)
+}
+
+// The length of the part.
+pub fn part_size(heights: Heights) -> usize
+    requires { ⌜ Fits heights ⌝ }
+    ensures { λ r. ⌜ (r ≡ partSize (heights .top) (belowOf heights)) × (r ≤ 1728 * heights .trees) ⌝ }
+{
+    let trees = heights.trees;
+    let h = heights.top;
+    if trees == 1 {
+        return tree_size(h);
+    }
+    let rest = below(heights);
+    seam_size(h) + part_size(rest)
 }
 
 // The length of the sum signatures of all trees.
@@ -81,4 +75,13 @@ pub(crate) fn sums_size(heights: Heights) -> usize
     }
     let rest = below(heights);
     sum_size(h) + sums_size(rest)
+}
+
+// The length of a signature: the sum signatures, and 32 bytes for each tree below the top.
+pub fn signature_size(heights: Heights) -> usize
+    requires { ⌜ Fits heights ⌝ }
+    ensures { λ r. ⌜ r ≡ sumsSize (heights .top) (belowOf heights) + rootsSize (belowOf heights) ⌝ }
+{
+    let trees = heights.trees;
+    sums_size(heights) + 32 * (trees - 1)
 }

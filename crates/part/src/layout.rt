@@ -5,7 +5,7 @@ ghost use lib.ListN.{length};
 ghost use Rattle.tree.specs.Tree.{treeSize};
 ghost use Rattle.tree.specs.Sum.{sumSize};
 ghost use Rattle.rules.specs.Part.{nextAt, seamSize};
-ghost use Rattle.rules.specs.Table.{maxHeight};
+ghost use Rattle.rules.specs.Trees.{maxHeight};
 ghost use Rattle.part.specs.Heights.{longest};
 
 pub fn tree_size(h: usize) -> usize
@@ -39,8 +39,8 @@ pub fn seam_size(h: usize) -> usize
 }
 
 // Room for the longest part. The contract gives its length alone, so that no goal spells the bytes out.
-pub(crate) fn room() -> [u8; 2944]
+pub(crate) fn room() -> [u8; 3264]
     ensures { λ r. ⌜ length r ≡ longest ⌝ }
 {
-    [0u8; 2944]
+    [0u8; 3264]
 }

@@ -9,7 +9,8 @@ mod signing;
 
 pub use accepting::accepted;
 pub use growing::make_part;
-pub use heights::Heights;
-pub use heights::two;
+pub use heights::part_size;
+pub use heights::signature_size;
+pub use heights::steps;
 pub use moving::move_part;
 pub use signing::sign_part;

@@ -4,12 +4,12 @@ ghost use mathlib.Core.Path.{_≡_};
 ghost use Prim.Native.Nat.{_^_, _<_, _≤_};
 ghost use lib.ListN.{length};
 ghost use Rattle.rules.specs.Part.{total, partSize};
-ghost use Rattle.rules.specs.Table.{maxHeight};
-ghost use Rattle.part.specs.Heights.{belowOf, longest, Fits};
-ghost use Rattle.part.specs.Inside.{Works, Commits, crossWork, partWork};
+ghost use Rattle.rules.specs.Trees.{belowOf, maxHeight};
+ghost use Rattle.part.specs.Heights.{longest, Fits};
+ghost use Rattle.rules.specs.Calls.{partWork};
+ghost use Rattle.part.specs.Inside.{Works, Commits, crossWork};
 use crate::growing::count_new_part;
 use crate::growing::grow_part;
-use crate::heights::Heights;
 use crate::heights::below;
 use crate::heights::steps;
 use crate::layout::next_at;
@@ -18,6 +18,7 @@ use crate::layout::seam_size;
 use crate::layout::tree_size;
 use crate::seam::advance;
 use crate::seam::close_seam;
+use rules::Heights;
 use tree::Grew;
 
 // The tree on top goes from its step a to its step b, and a new part grows below it, at step t. Answers the count. Where a module call was not answered,

@@ -8,7 +8,7 @@ ghost use Rattle.ed25519.specs.Inside.{Asks};
 ghost use Rattle.tree.specs.Tree.{withoutSecret};
 ghost use Rattle.tree.specs.Sum.{sumSignature};
 ghost use Rattle.rules.specs.Part.{topIn, nextAt, seamSize, chain, seam};
-ghost use Rattle.rules.specs.Table.{maxHeight};
+ghost use Rattle.rules.specs.Trees.{maxHeight};
 use crate::layout::next_at;
 use crate::layout::sum_size;
 use crate::layout::tree_size;

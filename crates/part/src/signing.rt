@@ -4,8 +4,8 @@ ghost use Prim.Native.Nat.{_+_, _^_, _<_, _≤_};
 ghost use lib.ListN.{length};
 ghost use Rattle.ed25519.specs.Inside.{Asks, Leaves};
 ghost use Rattle.rules.specs.Part.{total, partSize, sumsSize, rootsSize, sumsIn, rootsIn, partSignature};
-ghost use Rattle.part.specs.Heights.{belowOf, Fits};
-use crate::heights::Heights;
+ghost use Rattle.rules.specs.Trees.{belowOf};
+ghost use Rattle.part.specs.Heights.{Fits};
 use crate::heights::below;
 use crate::heights::steps;
 use crate::heights::sums_size;
@@ -13,6 +13,7 @@ use crate::layout::next_at;
 use crate::layout::seam_size;
 use crate::layout::sum_size;
 use crate::layout::tree_size;
+use rules::Heights;
 
 // Writes the sum signatures, top first, the lowest over message. The lowest leaf signs before anything is written.
 fn put_sums(

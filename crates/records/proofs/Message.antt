@@ -15,6 +15,7 @@ use Rattle.text.proofs.Back.{number-back, digits-back}
 use Rattle.text.proofs.Cuts.{withTabs, rejoined}
 use Rattle.text.proofs.Reading.{picked}
 use Rattle.text.specs.declared.Number.the-variants.{Value}
+use Rattle.rules.specs.Trees.{two}
 use Rattle.rules.specs.Table.{steps, signatureSize}
 use Rattle.records.specs.declared.Edition.{Edition}
 use Rattle.records.specs.declared.Edition.the-variants.{Tabbed}
@@ -31,7 +32,7 @@ malformed-not e = let z : _≡_ {A = ℕ} 0 1 = cc in omega arith
 entry-of : (h : FirstLine) (e : Entry) (hex : List ℕ) {r : Record} {s : List ℕ} → signedIn h e hex ≡ recorded r s → e ≡ WellFormed r
 entry-of h IllFormed hex p = absurd (malformed-not p)
 entry-of h (WellFormed q) hex {r} {s} p =
-    let c = chosen (isHexOf (signatureSize (h .h1) (h .h2)) hex) (recorded q (bytesOf hex)) malformed malformed-not p in
+    let c = chosen (isHexOf (signatureSize (two (h .h1) (h .h2))) hex) (recorded q (bytesOf hex)) malformed malformed-not p in
     cc
 
 card-back : (s : List ℕ) {c : ℕ} → cardIn s ≡ Value c → padded 16 c ≡ s
@@ -48,7 +49,7 @@ spelt v card serial amount = card ++ (gap v ++ (serial ++ (gap v ++ amount)))
 numbers-message : (v : Edition) (h : FirstLine) (step card serial amount : List ℕ) {r : Record} → numbersIn h step card serial amount ≡ WellFormed r → message v r ≡ spelt v card serial amount
 unfolding numbersIn message
 numbers-message v h step card serial amount {r} e =
-    let t = given-some IllFormed (numberIn 0 (steps (h .h1) (h .h2) - 1) step) _ ill-not e in
+    let t = given-some IllFormed (numberIn 0 (steps (two (h .h1) (h .h2)) - 1) step) _ ill-not e in
     let c = given-some IllFormed (cardIn card) _ ill-not (t .so) in
     let n = given-some IllFormed (numberIn 1 4294967295 serial) _ ill-not (c .so) in
     let a = given-some IllFormed (numberIn 1 2000000 amount) _ ill-not (n .so) in

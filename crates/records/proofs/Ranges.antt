@@ -13,6 +13,7 @@ use Rattle.text.specs.Numerals.{numberIn, digitsUpTo, given}
 use Rattle.text.proofs.Reading.{picked, digits-within, within}
 use Rattle.text.specs.declared.Number.{Number}
 use Rattle.text.specs.declared.Number.the-variants.{Value, Bad}
+use Rattle.rules.specs.Trees.{two}
 use Rattle.rules.specs.Table.{steps, signatureSize}
 use Rattle.records.specs.declared.Edition.{Edition}
 use Rattle.records.specs.declared.Edition.the-variants.{Plain, Tabbed}
@@ -88,7 +89,7 @@ ill-not e = let z : _≡_ {A = ℕ} 0 1 = cc in omega arith
 numbers-range : (h : FirstLine) (step card serial amount : List ℕ) {r : Record} → numbersIn h step card serial amount ≡ WellFormed r → InRange r
 unfolding numbersIn cardIn
 numbers-range h step card serial amount {r} e =
-    let t = given-some IllFormed (numberIn 0 (steps (h .h1) (h .h2) - 1) step) _ ill-not e in
+    let t = given-some IllFormed (numberIn 0 (steps (two (h .h1) (h .h2)) - 1) step) _ ill-not e in
     let c = given-some IllFormed (cardIn card) _ ill-not (t .so) in
     let n = given-some IllFormed (numberIn 1 4294967295 serial) _ ill-not (c .so) in
     let a = given-some IllFormed (numberIn 1 2000000 amount) _ ill-not (n .so) in
@@ -112,7 +113,7 @@ pick-ranged false x i = tt
 
 signed-ranged : (h : FirstLine) (e : Entry) (s : List ℕ) → ((r : Record) → e ≡ WellFormed r → InRange r) → Ranged (signedIn h e s)
 signed-ranged h IllFormed s f = tt
-signed-ranged h (WellFormed r) s f = pick-ranged (isHexOf (signatureSize (h .h1) (h .h2)) s) (recorded r (bytesOf s)) (f r refl)
+signed-ranged h (WellFormed r) s f = pick-ranged (isHexOf (signatureSize (two (h .h1) (h .h2))) s) (recorded r (bytesOf s)) (f r refl)
 
 pub record-ranged : (h : FirstLine) (fs : List (List ℕ)) → Ranged (recordIn h fs)
 unfolding recordIn

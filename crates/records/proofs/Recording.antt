@@ -12,6 +12,7 @@ use Rattle.text.proofs.Nibbles.{full-hex, other-hex}
 use Rattle.text.specs.declared.Number.the-variants.{Value, Bad}
 use Rattle.text.specs.declared.Decoded.{Decoded}
 use Rattle.text.specs.declared.Decoded.the-variants.{Full, Other}
+use Rattle.rules.specs.Trees.{two}
 use Rattle.rules.specs.Table.{steps, signatureSize}
 use Rattle.records.specs.declared.FirstLine.{FirstLine}
 use Rattle.records.specs.declared.Record.{Record}
@@ -30,7 +31,7 @@ module _ (s : List ℕ) where
   unfolding cardIn
   card-digits h = simp (eq-eqb (length s) 16 h)
 
-module _ (h : FirstLine) (step card serial amount : List ℕ) (last : ℕ) (el : last ≡ steps (h .h1) (h .h2) - 1) where
+module _ (h : FirstLine) (step card serial amount : List ℕ) (last : ℕ) (el : last ≡ steps (two (h .h1) (h .h2)) - 1) where
   abbrev Is : Entry → Type 0
   Is e = numbersIn h step card serial amount ≡ e
 
@@ -89,17 +90,17 @@ module _ (h : FirstLine) {fs : List (List ℕ)} {step card serial amount hex : L
   pub no-numbers : {room : List ℕ} → entry ≡ IllFormed → ReadsLine (recordIn h fs) room entry room
   no-numbers e = rw e (reads-none (later-in ∙ rw e) refl)
 
-  module _ {r : Record} (e : entry ≡ WellFormed r) {room room′ : List ℕ} {d : Decoded} (l : length room ≡ signatureSize (h .h1) (h .h2)) (u : Unhexes hex room d room′) where
+  module _ {r : Record} (e : entry ≡ WellFormed r) {room room′ : List ℕ} {d : Decoded} (l : length room ≡ signatureSize (two (h .h1) (h .h2))) (u : Unhexes hex room d room′) where
     pub no-signature : d ≡ Other → ReadsLine (recordIn h fs) room IllFormed room′
     no-signature o =
         let f = other-hex u o in
-        let g : isHexOf (signatureSize (h .h1) (h .h2)) hex ≡ false = ap (λ (n : ℕ). isHexOf n hex) (sym l) ∙ f .0 in
+        let g : isHexOf (signatureSize (two (h .h1) (h .h2))) hex ≡ false = ap (λ (n : ℕ). isHexOf n hex) (sym l) ∙ f .0 in
         reads-none (later-in ∙ rw (e, g)) (f .1)
 
     pub with-signature : d ≡ Full → ReadsLine (recordIn h fs) room entry room′
     with-signature o =
         let f = full-hex u o in
-        let g : isHexOf (signatureSize (h .h1) (h .h2)) hex ≡ true = ap (λ (n : ℕ). isHexOf n hex) (sym l) ∙ f .0 in
+        let g : isHexOf (signatureSize (two (h .h1) (h .h2))) hex ≡ true = ap (λ (n : ℕ). isHexOf n hex) (sym l) ∙ f .0 in
         let k : recordIn h fs ≡ recorded r (bytesOf hex) = later-in ∙ rw (e, g) in
         record { answers = e ∙ rw k; leaves = f .1 ∙ rw k }
 

@@ -10,6 +10,7 @@ use Rattle.text.specs.Hex.{isHexOf, bytesOf}
 use Rattle.text.specs.Digits.{decimal, padded}
 use Rattle.text.specs.declared.Number.{Number}
 use Rattle.text.specs.declared.Number.the-variants.{Bad}
+use Rattle.rules.specs.Trees.{two}
 use Rattle.rules.specs.Table.{steps, signatureSize}
 use Rattle.records.specs.declared.Edition.{Edition}
 use Rattle.records.specs.declared.Edition.the-variants.{Plain, Tabbed}
@@ -25,7 +26,7 @@ cardIn s = pick (eqb (length s) 16) (digitsUpTo 9999999999999999 s) Bad
 -- the numbers of a record; a step at or past T is none
 unfoldable pub numbersIn : FirstLine → List ℕ → List ℕ → List ℕ → List ℕ → Entry
 numbersIn h step card serial amount =
-    given IllFormed (numberIn 0 (steps (h .h1) (h .h2) - 1) step) (λ t.
+    given IllFormed (numberIn 0 (steps (two (h .h1) (h .h2)) - 1) step) (λ t.
     given IllFormed (cardIn card) (λ c.
     given IllFormed (numberIn 1 4294967295 serial) (λ n.
     given IllFormed (numberIn 1 2000000 amount) (λ cents.
@@ -39,7 +40,7 @@ pub data LaterLine : Type 0 where
 -- the signature is the hex of its exact length
 abbrev pub signedIn : FirstLine → Entry → List ℕ → LaterLine
 signedIn h IllFormed signature = malformed
-signedIn h (WellFormed r) signature = pick (isHexOf (signatureSize (h .h1) (h .h2)) signature) (recorded r (bytesOf signature)) malformed
+signedIn h (WellFormed r) signature = pick (isHexOf (signatureSize (two (h .h1) (h .h2))) signature) (recorded r (bytesOf signature)) malformed
 
 -- the record that the fields of a line say
 unfoldable pub recordIn : FirstLine → List (List ℕ) → LaterLine

@@ -4,6 +4,7 @@ ghost use Prim.Native.Nat.{_-_, _<_};
 ghost use lib.ListN.{length};
 ghost use Rattle.fields.specs.Tests.{same};
 ghost use Rattle.text.specs.Columns.{columns};
+ghost use Rattle.rules.specs.Trees.{two};
 ghost use Rattle.rules.specs.Table.{steps, signatureSize};
 ghost use Rattle.records.specs.FirstLine.{editionIn, shortHeights, wrongHead, headWith, headIn};
 ghost use Rattle.records.specs.Inside.{noHeader, headed, LowHeights, ReadsLine, TwoFields, FourFields, FiveFields};
@@ -151,9 +152,9 @@ pub fn read_header(line: &[u8]) -> Headed
 
 fn last_step(header: FirstLine) -> u64
     requires { ⌜ LowHeights header ⌝ }
-    ensures { λ r. ⌜ (r ≡ steps (header .h1) (header .h2) - 1) × (r < 16777216) ⌝ }
+    ensures { λ r. ⌜ (r ≡ steps (two (header .h1) (header .h2)) - 1) × (r < 16777216) ⌝ }
 {
-    key::layout::steps(header.h1 as usize, header.h2 as usize) as u64 - 1
+    key::layout::steps(header.h1, header.h2) as u64 - 1
 }
 
 fn read_card(s: &[u8]) -> Number
@@ -199,7 +200,7 @@ fn read_fields(
     d: usize,
     signature: &mut [u8],
 ) -> Entry
-    requires { ⌜ LowHeights header × FiveFields (now line) a b c d × (length (now signature) ≡ signatureSize (header .h1) (header .h2)) ⌝ }
+    requires { ⌜ LowHeights header × FiveFields (now line) a b c d × (length (now signature) ≡ signatureSize (two (header .h1) (header .h2))) ⌝ }
     ensures { λ r. ⌜ ReadsLine (recordIn header (columns (now (line .entry)))) (now (signature .entry)) r (now (signature .exit)) ⌝ }
 {
     let card = a + 1;
@@ -225,7 +226,7 @@ fn read_fields(
 
 // The record of a line; its signature goes into signature, which a malformed line leaves as found.
 pub fn read_record(header: FirstLine, line: &[u8], signature: &mut [u8]) -> Entry
-    requires { ⌜ LowHeights header × (length (now signature) ≡ signatureSize (header .h1) (header .h2)) ⌝ }
+    requires { ⌜ LowHeights header × (length (now signature) ≡ signatureSize (two (header .h1) (header .h2))) ⌝ }
     ensures { λ r. ⌜ ReadsLine (recordIn header (columns (now (line .entry)))) (now (signature .entry)) r (now (signature .exit)) ⌝ }
     ensures { λ _. ⌜ now (line .exit) ≡ now (line .entry) ⌝ }
 {

@@ -20,7 +20,9 @@ use Rattle.refusal.specs.declared.Refusal.the-variants.{Height, SeedOrKey, Leng
 use Rattle.tree.specs.Sum.{sumSize, signedVk, signedPath, climb, pathFits, leafAccepts, sumVerdict}
 use Rattle.rules.specs.Part.{total, outer, inner, sumsSize, sumsVerdict, partVerdict}
 use Rattle.rules.specs.Table.{steps, signatureSize}
-use Rattle.rules.specs.Calls.{tooHigh, VerifyOutcome, verifyOutcome, verdictOf}
+use Rattle.rules.specs.Trees.{belowOf, tooHigh}
+use Rattle.rules.specs.declared.Heights.{Heights}
+use Rattle.rules.specs.Calls.{VerifyOutcome, verifyOutcome, verdictOf}
 use Rattle.rules.specs.declared.Verdict.the-variants.{Accepted, Rejected, Refused}
 use Rattle.rules.proofs.Steps.{inner-lt, outer-lt}
 use Rattle.reuse.specs.Twice.{Tells}
@@ -86,23 +88,23 @@ sums-twice (g ∷ hs) root m x roots h t u l lt lu f p q = go (sums-twice hs) (�
         let z : t ≡ u = omega arith in z)) (a .1) (b .1))
 
 -- what an accepted signature has passed
-record Passed (h1 h2 : ℕ) (k : List ℕ) (t : ℕ) (m x : List ℕ) : Type 0 where
-  exact : length x ≡ signatureSize h1 h2
-  soon : t < steps h1 h2
-  holds : partVerdict k h1 (h2 ∷ []) t m x ≡ true
+record Passed (ht : Heights) (k : List ℕ) (t : ℕ) (m x : List ℕ) : Type 0 where
+  exact : length x ≡ signatureSize ht
+  soon : t < steps ht
+  holds : partVerdict k (ht .top) (belowOf ht) t m x ≡ true
 
 refused : (why : Refusal) → Refused why ≡ Accepted → ⊥
 refused why e = let z : _≡_ {A = ℕ} 0 1 = cc in omega arith
 
-passed : (h1 h2 : ℕ) (k : List ℕ) (t : ℕ) (m x : List ℕ) → verifyOutcome h1 h2 k t m x .answer ≡ Accepted → Passed h1 h2 k t m x
+passed : (ht : Heights) (k : List ℕ) (t : ℕ) (m x : List ℕ) → verifyOutcome ht k t m x .answer ≡ Accepted → Passed ht k t m x
 unfolding verifyOutcome verdictOf
-passed h1 h2 k t m x =
-    go (tooHigh h1 h2) (eqb (length k) 32) (eqb (length x) (signatureSize h1 h2)) (ltb limit (length m)) (leb (steps h1 h2) t) (partVerdict k h1 (h2 ∷ []) t m x)
+passed ht k t m x =
+    go (tooHigh ht) (eqb (length k) 32) (eqb (length x) (signatureSize ht)) (ltb limit (length m)) (leb (steps ht) t) (partVerdict k (ht .top) (belowOf ht) t m x)
     refl refl refl
   where
-    go : (a b c d e f : Bool) → eqb (length x) (signatureSize h1 h2) ≡ c → leb (steps h1 h2) t ≡ e → partVerdict k h1 (h2 ∷ []) t m x ≡ f
+    go : (a b c d e f : Bool) → eqb (length x) (signatureSize ht) ≡ c → leb (steps ht) t ≡ e → partVerdict k (ht .top) (belowOf ht) t m x ≡ f
         → pick a (Refused Height) (pick b (pick c (pick d (Refused TooLong) (pick e (Refused PastEnd) (pick f Accepted Rejected))) (Refused Length)) (Refused SeedOrKey))
-        ≡ Accepted → Passed h1 h2 k t m x
+        ≡ Accepted → Passed ht k t m x
     go true b c d e f p q r z = absurd (refused Height z)
     go false false c d e f p q r z = absurd (refused SeedOrKey z)
     go false true false d e f p q r z = absurd (refused Length z)
@@ -110,14 +112,14 @@ passed h1 h2 k t m x =
     go false true true false true f p q r z = absurd (refused PastEnd z)
     go false true true false false false p q r z = absurd (let z : _≡_ {A = ℕ} 0 1 = cc in let q : ⊥ = omega arith in q)
     go false true true false false true p q r z =
-        record { exact = eqb-true (length x) (signatureSize h1 h2) p; soon = leb-false (steps h1 h2) t q; holds = r }
+        record { exact = eqb-true (length x) (signatureSize ht) p; soon = leb-false (steps ht) t q; holds = r }
 
 pub one-step-of : (h : ℕ) (hs : List ℕ) → OneStepOf h hs
 unfolding partVerdict
 one-step-of h hs root m x t u l lt lu f p q = sums-twice hs root m x (drop (sumsSize h hs) x) h t u (omega arith) lt lu f p q
 
 pub one-step : OneStep
-one-step h1 h2 k m x t u f p q =
-    let a = passed h1 h2 k t m x p in
-    let b = passed h1 h2 k u m x q in
-    one-step-of h1 (h2 ∷ []) k m x t u (let e = a .exact in omega arith) (a .soon) (b .soon) f (a .holds) (b .holds)
+one-step ht k m x t u f p q =
+    let a = passed ht k t m x p in
+    let b = passed ht k u m x q in
+    one-step-of (ht .top) (belowOf ht) k m x t u (let e = a .exact in omega arith) (a .soon) (b .soon) f (a .holds) (b .holds)

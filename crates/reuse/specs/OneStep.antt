@@ -6,7 +6,9 @@ use Prim.Native.Nat.{ℕ, _+_, _^_, _<_}
 use lib.ListN.{length, take, drop}
 use Rattle.tree.specs.Sum.{sumSize}
 use Rattle.rules.specs.Part.{total, outer, inner, sumsSize, rootsSize, partVerdict}
+use Rattle.rules.specs.Trees.{belowOf}
 use Rattle.rules.specs.Calls.{VerifyOutcome, verifyOutcome}
+use Rattle.rules.specs.declared.Heights.{Heights}
 use Rattle.rules.specs.declared.Verdict.the-variants.{Accepted}
 use Rattle.reuse.specs.Twice.{Tells}
 
@@ -22,8 +24,8 @@ OneStepOf h hs =
     (root m x : List ℕ) (t u : ℕ) → length x ≡ sumsSize h hs + rootsSize hs → t < 2 ^ total h hs → u < 2 ^ total h hs → (t ≡ u → ⊥)
     → partVerdict root h hs t m x ≡ true → partVerdict root h hs u m x ≡ true → Reused h hs x t u
 
--- THE LAW, of the call: one key, one pair of heights, one message and one signature, accepted at t and at u
+-- THE LAW, of the call: one key, the same heights, one message and one signature, accepted at t and at u
 abbrev pub OneStep : Type 0
 OneStep =
-    (h1 h2 : ℕ) (k m x : List ℕ) (t u : ℕ) → (t ≡ u → ⊥) → verifyOutcome h1 h2 k t m x .answer ≡ Accepted → verifyOutcome h1 h2 k u m x .answer ≡ Accepted
-    → Reused h1 (h2 ∷ []) x t u
+    (ht : Heights) (k m x : List ℕ) (t u : ℕ) → (t ≡ u → ⊥) → verifyOutcome ht k t m x .answer ≡ Accepted → verifyOutcome ht k u m x .answer ≡ Accepted
+    → Reused (ht .top) (belowOf ht) x t u

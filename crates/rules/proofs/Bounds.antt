@@ -1,5 +1,6 @@
--- The count's bounds, over a list of heights and then at two trees as document 01 states them.
+-- The count's bounds, over a list of heights, and then at one, two and three trees.
 use mathlib.Core.Path.{_≡_, refl}
+use mathlib.Core.Logic.{inl, inr}
 use lib.ListN.{length}
 use Rattle.fields.specs.Tests.{pick}
 use Rattle.tree.specs.Seeds.{goesLeft, inRight}
@@ -11,10 +12,13 @@ use native.Mathlib.Numerals.{add-one}
 use native.Mathlib.Nat.{pow-suc}
 use native.Mathlib.Omega.{arith}
 use lib.Dec.{eqb}
-use lib.Pow.{pow-pos}
+use lib.Pow.{pow-pos, pow-mono}
 use borrow.Author.Tests.{eq-eqb}
 use Rattle.tree.proofs.Laws.{count-bound, count-new-bound}
 use Rattle.rules.specs.Part.{total, outer, inner, countNewPart, countPart, callsNewPart, callsPart, rootsPart}
+use Rattle.rules.specs.Trees.{belowOf, OfKey}
+use Rattle.rules.specs.declared.Heights.{Heights}
+use Rattle.rules.proofs.Trees.{trees-of, low12}
 
 -- a new part: every tree of it is new
 unfoldable pub newBound : ℕ → List ℕ → ℕ
@@ -26,7 +30,7 @@ unfoldable pub moveBound : ℕ → List ℕ → ℕ
 moveBound h [] = 2 ^ h - 1
 moveBound h (g ∷ hs) = (2 ^ h - 1) + newBound g hs
 
-new-bound : (hs : List ℕ) (h t : ℕ) → countNewPart h hs t ≤ newBound h hs
+pub new-bound : (hs : List ℕ) (h t : ℕ) → countNewPart h hs t ≤ newBound h hs
 unfolding countNewPart newBound
 new-bound [] h t = count-new-bound h t
 new-bound (g ∷ hs) h t =
@@ -34,7 +38,7 @@ new-bound (g ∷ hs) h t =
     let y = new-bound hs g (inner (total g hs) t) in
     omega arith
 
-move-within-new : (hs : List ℕ) (h : ℕ) → moveBound h hs ≤ newBound h hs
+pub move-within-new : (hs : List ℕ) (h : ℕ) → moveBound h hs ≤ newBound h hs
 unfolding moveBound newBound
 move-within-new [] h = rw pow-suc (omega arith)
 move-within-new (g ∷ hs) h = rw pow-suc (omega arith)
@@ -53,19 +57,47 @@ part-bound (g ∷ hs) h a b = go (part-bound hs) (eqb (outer (total g hs) a) (ou
         let y = new-bound hs g (inner (total g hs) b) in
         omega arith)
 
--- two trees: a move that keeps t1 is one of the child alone
-pub count-within : (h1 h2 a b : ℕ) → outer h2 a ≡ outer h2 b → countPart h1 (h2 ∷ []) a b ≤ 2 ^ h2 - 1
+-- a move that keeps the top tree's step is one of the part below alone
+pub count-within : (hs : List ℕ) (h g a b : ℕ) → outer (total g hs) a ≡ outer (total g hs) b → countPart h (g ∷ hs) a b ≤ moveBound g hs
 unfolding countPart
-count-within h1 h2 a b e = rw (eq-eqb (outer h2 a) (outer h2 b) e) (count-bound h2 (inner h2 a) (inner h2 b))
+count-within hs h g a b e = rw (eq-eqb (outer (total g hs) a) (outer (total g hs) b) e) (part-bound hs g (inner (total g hs) a) (inner (total g hs) b))
 
--- and one that changes it grows at most this; a move that keeps it too
-pub count-across : (h1 h2 a b : ℕ) → countPart h1 (h2 ∷ []) a b ≤ 2 ^ h1 + 2 ^ (h2 + 1) - 2
+-- the bound of one tree, of two as document 01 states it, and of three
+pub bound-of-one : (h : ℕ) → moveBound h [] ≡ 2 ^ h - 1
+unfolding moveBound
+bound-of-one h = refl
+
+pub bound-of-two : (h1 h2 : ℕ) → moveBound h1 (h2 ∷ []) ≡ 2 ^ h1 + 2 ^ (h2 + 1) - 2
 unfolding moveBound newBound
-count-across h1 h2 a b =
-    let x = part-bound (h2 ∷ []) h1 a b in
+bound-of-two h1 h2 =
     let p = pow-pos h1 in
     let q = pow-pos (suc h2) in
     rw add-one (omega arith)
+
+pub bound-of-three : (h1 h2 h3 : ℕ) → moveBound h1 (h2 ∷ h3 ∷ []) ≡ 2 ^ h1 + 2 ^ (h2 + 1) + 2 ^ (h3 + 1) - 3
+unfolding moveBound newBound
+bound-of-three h1 h2 h3 =
+    let p = pow-pos h1 in
+    let q = pow-pos (suc h2) in
+    let r = pow-pos (suc h3) in
+    rw (add-one, add-one) (omega arith)
+
+-- the heights of a key keep both below 2^32
+pub new-small : (ht : Heights) → OfKey ht → newBound (ht .top) (belowOf ht) ≤ 24576
+unfolding newBound
+new-small ht k = elim (trees-of ht (k .0)) [
+  | inl e ↦ rw (e .0) (omega (arith, p1, p2))
+  | inr e ↦ rw e (omega (arith, p1, p2, p3))
+]
+  where
+    p1 : 2 ^ suc (ht .top) ≤ 2 ^ 13
+    p1 = pow-mono (let l = low12 ht k .0 in let z : suc (ht .top) ≤ 13 = omega arith in z)
+
+    p2 : 2 ^ suc (ht .second) ≤ 2 ^ 13
+    p2 = pow-mono (let l = low12 ht k .1 in let z : suc (ht .second) ≤ 13 = omega arith in z)
+
+    p3 : 2 ^ suc (ht .third) ≤ 2 ^ 13
+    p3 = pow-mono (let l = low12 ht k .2 in let z : suc (ht .third) ≤ 13 = omega arith in z)
 
 -- The module calls: at most the rules' count and one for each root signed (request 4).
 tree-calls : (h a b : ℕ) → callsMove h a b ≤ countMove h a b
@@ -99,3 +131,16 @@ part-calls (g ∷ hs) h a b = go (part-calls hs g (inner (total g hs) a) (inner 
         + pick x (rootsPart g hs (inner n a) (inner n b)) (suc (length hs))
     go p true = p
     go p false = let k = tree-calls h (outer n a) (outer n b) in let l = new-calls hs g (inner n b) in omega arith
+
+-- at most one root for each tree below the top
+pub part-roots : (hs : List ℕ) (h a b : ℕ) → rootsPart h hs a b ≤ length hs
+unfolding rootsPart
+part-roots [] h a b = omega arith
+part-roots (g ∷ hs) h a b = go (part-roots hs g (inner (total g hs) a) (inner (total g hs) b)) (eqb (outer (total g hs) a) (outer (total g hs) b))
+  where
+    n : ℕ
+    n = total g hs
+
+    go : rootsPart g hs (inner n a) (inner n b) ≤ length hs → (x : Bool) → pick x (rootsPart g hs (inner n a) (inner n b)) (suc (length hs)) ≤ suc (length hs)
+    go p true = omega arith
+    go p false = omega arith

@@ -35,7 +35,7 @@ module _ (d : List ℕ) (b : ℕ) where
     where
       go : (f : Found) → (moveUnder (stayed d) f d b ≡ stayed d) ⊎ (moveUnder (stayed d) f d b ≡ moveUnder (notMoved NotLater d) f d b)
       go (found.Refused why) = inr refl
-      go (found.Good x) = under (leb (steps (x .h1) (x .h2)) b) (leb b (x .step))
+      go (found.Good x) = under (leb (steps (x .heights)) b) (leb b (x .step))
         where
           after : MoveOutcome
           after = pick (allows x b) (moved x b (moveWork x (bodyIn d) b)) (notMoved NotReleased d)
@@ -67,7 +67,7 @@ module _ (d : List ℕ) (b : ℕ) where
       go : (f : Bool) → Among (moveUnder (stayed d) (pick f (found.Good (headerIn d)) (found.Refused Table)) d b) (catchListed d b)
       go true =
           let x = headerIn d in
-          either (leb (steps (x .h1) (x .h2)) b) (there (here refl))
+          either (leb (steps (x .heights)) b) (there (here refl))
           (either (leb b (x .step)) (there (there (here refl))) (either (allows x b) (there (there (there (there (here refl))))) (there (there (there (here refl))))))
       go false = here refl
 

@@ -10,10 +10,11 @@ use borrow.Author.Tests.{le-leb, lt-leb}
 use Rattle.fields.proofs.Cases.{side}
 use Rattle.refusal.specs.declared.Refusal.{Refusal}
 use Rattle.refusal.specs.declared.Refusal.the-variants.{PastEnd, NotReleased}
+use Rattle.rules.specs.Trees.{belowOf}
 use Rattle.rules.specs.Part.{partSize, movedPart}
 use Rattle.rules.specs.Table.{headerSize, steps, atStep, headerBytes, headerIn, wellFormed, bodyIn, headerOf}
 use Rattle.rules.specs.Answers.{Told, grownTold}
-use Rattle.rules.specs.Calls.{moveWork, MoveOutcome, notMoved, moved, allows, moveUnder, stayed, catchOutcome}
+use Rattle.rules.specs.Calls.{moveWork, partWork, MoveOutcome, notMoved, moved, allows, moveUnder, stayed, catchOutcome}
 use Rattle.rules.specs.CatchUp.{caughtUp, catchNumber, EitherOrder, AskedTwice, AnswersBelowT}
 use Rattle.rules.specs.declared.Header.{Header}
 use Rattle.rules.specs.declared.Found.{Found}
@@ -33,7 +34,7 @@ body-behind x ys = refl
 -- a well-formed table of header x
 module _ (d : List ℕ) (x : Header) (e : headerOf d ≡ found.Good x) where
   abbrev end : ℕ
-  end = steps (x .h1) (x .h2)
+  end = steps (x .heights)
 
   -- it is not moved to a step at or past the end, nor to one that is not later, nor to one that a window has not yet released
   abbrev Idle : ℕ → Type 0
@@ -61,24 +62,24 @@ module _ (d : List ℕ) (x : Header) (e : headerOf d ≡ found.Good x) where
 
   -- where it is moved
   abbrev movedTable : ℕ → List ℕ
-  movedTable b = headerBytes (atStep x b) ++ movedPart (bodyIn d) (x .h1) (x .h2 ∷ []) (x .step) b
+  movedTable b = headerBytes (atStep x b) ++ movedPart (bodyIn d) (x .heights .top) (belowOf (x .heights)) (x .step) b
 
   goes : (b : ℕ) → x .step < b → b < end → allows x b ≡ true → catchOutcome d b ≡ moved x b (moveWork x (bodyIn d) b)
   unfolding catchOutcome moveUnder
   goes b lt u y = rw (e, lt-leb end b u, lt-leb b (x .step) lt, y)
 
   gone : (b : ℕ) → x .step < b → b < end → allows x b ≡ true → caughtUp d b ≡ movedTable b
-  unfolding moveWork
+  unfolding partWork
   gone b lt u y = ap (λ (o : MoveOutcome). o .table) (goes b lt u y)
 
-  body-size : length (bodyIn d) ≡ partSize (x .h1) (x .h2 ∷ [])
+  body-size : length (bodyIn d) ≡ partSize (x .heights .top) (belowOf (x .heights))
   body-size = let w = whole d e in rw length-drop (omega arith)
 
   moved-header : (b : ℕ) → b < end → headerOf (movedTable b) ≡ found.Good (atStep x b)
   moved-header b u =
       let w = whole d e in
-      let m = movedPart (bodyIn d) (x .h1) (x .h2 ∷ []) (x .step) b in
-      header-found (x .h1) (x .h2) b (x .first) (x .second) m (part-moved-size (x .h2 ∷ []) (bodyIn d) (x .h1) (x .step) b body-size) (w .low1) (w .low2) u (w .need1) (w .need2)
+      let m = movedPart (bodyIn d) (x .heights .top) (belowOf (x .heights)) (x .step) b in
+      header-found (x .heights) b (x .first) (x .second) m (part-moved-size (belowOf (x .heights)) (bodyIn d) (x .heights .top) (x .step) b body-size) (w .key) u (w .need1) (w .need2)
 
 -- asked a second time, where the first has changed nothing
 twice-left : (d : List ℕ) (b : ℕ) → caughtUp d b ≡ d → (caughtUp (caughtUp d b) b ≡ caughtUp d b) × (catchNumber (caughtUp d b) b ≡ catchNumber d b)
@@ -87,7 +88,7 @@ twice-left d b k = (ap (λ (y : List ℕ). caughtUp y b) k, ap (λ (y : List ℕ
 -- a second catch-up, of the table that the first has left
 module _ (d : List ℕ) (x : Header) (e : headerOf d ≡ found.Good x) where
   abbrev T : ℕ
-  T = steps (x .h1) (x .h2)
+  T = steps (x .heights)
 
   pub record Goes (b : ℕ) : Type 0 where
     pub later : x .step < b
@@ -106,9 +107,9 @@ module _ (d : List ℕ) (x : Header) (e : headerOf d ≡ found.Good x) where
       let lt = g .later in
       let ua = g .before in
       let u = k .before in
-      let m = movedPart (bodyIn d) (x .h1) (x .h2 ∷ []) (x .step) a in
+      let m = movedPart (bodyIn d) (x .heights .top) (belowOf (x .heights)) (x .step) a in
       let there : movedTable (movedTable d x e a) (atStep x a) (moved-header d x e a ua) b ≡ movedTable d x e b =
-      rw (body-behind (atStep x a) m, part-again (x .h2 ∷ []) (bodyIn d) (x .h1) (x .step) a b (body-size d x e) lt lu u) in
+      rw (body-behind (atStep x a) m, part-again (belowOf (x .heights)) (bodyIn d) (x .heights .top) (x .step) a b (body-size d x e) lt lu u) in
       ap (λ (y : List ℕ). caughtUp y b) (gone d x e a lt ua (g .allowed)) ∙ gone (movedTable d x e a) (atStep x a) (moved-header d x e a ua) b lu u (k .allowed) ∙ there
       ∙ sym (gone d x e b (k .later) u (k .allowed))
 

@@ -1,4 +1,5 @@
 pub mod Sums
+pub mod Trees
 pub mod Headers
 pub mod Steps
 pub mod Once

@@ -12,11 +12,13 @@ use Rattle.fields.proofs.Lists.{either, with-silence}
 use Rattle.blake2b.specs.Calls.{limit}
 use Rattle.refusal.specs.declared.Refusal.the-variants.{Table, NotLater, Unanswered}
 use Rattle.ed25519.specs.Tally.{Run, asked}
+use Rattle.rules.specs.Trees.{belowOf, tooHigh}
+use Rattle.rules.specs.declared.Heights.{Heights}
 use Rattle.rules.specs.Part.{partVerdict}
 use Rattle.rules.specs.Table.{steps, tableSize, signatureSize, headerIn, wellFormed, headerOf}
 use Rattle.refusal.specs.Numbers.{answerNumber}
 use Rattle.rules.specs.Answers.{grownTold, verdictNumber}
-use Rattle.rules.specs.Calls.{tooHigh, Makes, MakeOutcome, notMade, makeOutcome, makeTallied}
+use Rattle.rules.specs.Calls.{Makes, MakeOutcome, notMade, makeOutcome, makeTallied}
 use Rattle.rules.specs.Calls.{Reads, KeyOutcome, keyUnder, keyOutcome}
 use Rattle.rules.specs.Calls.{Moves, MoveOutcome, notMoved, allows, moveUnder, moveOutcome, moveTallied}
 use Rattle.rules.specs.Calls.{Releases, ReleaseOutcome, stoodFor, releaseUnder, releaseOutcome}
@@ -29,9 +31,9 @@ use Rattle.rules.specs.declared.Grown.{Grown}
 use Rattle.refusal.specs.declared.Answer.{Answer}
 use Rattle.rules.specs.declared.Verdict.{Verdict}
 
-pub make-once : (h1 h2 : ℕ) (s d : List ℕ) (t : ℕ) {a b : Grown} {s₁ s₂ d₁ d₂ : List ℕ} {t₁ t₂ : ℕ} → Makes h1 h2 s d t a s₁ d₁ t₁ → Makes h1 h2 s d t b s₂ d₂ t₂
+pub make-once : (ht : Heights) (s d : List ℕ) (t : ℕ) {a b : Grown} {s₁ s₂ d₁ d₂ : List ℕ} {t₁ t₂ : ℕ} → Makes ht s d t a s₁ d₁ t₁ → Makes ht s d t b s₂ d₂ t₂
     → (a ≡ b) × (s₁ ≡ s₂) × (d₁ ≡ d₂) × (t₁ ≡ t₂)
-make-once h1 h2 s d t x y = (x .answers ∙ sym (y .answers), x .zeroes ∙ sym (y .zeroes), x .leaves ∙ sym (y .leaves), x .tallies ∙ sym (y .tallies))
+make-once ht s d t x y = (x .answers ∙ sym (y .answers), x .zeroes ∙ sym (y .zeroes), x .leaves ∙ sym (y .leaves), x .tallies ∙ sym (y .tallies))
 
 pub key-once : (d out : List ℕ) {a b : Answer} {d₁ d₂ o₁ o₂ : List ℕ} → Reads d out a d₁ o₁ → Reads d out b d₂ o₂ → (a ≡ b) × (d₁ ≡ d₂) × (o₁ ≡ o₂)
 key-once d out x y = (x .answers ∙ sym (y .answers), x .keeps ∙ sym (y .keeps), x .leaves ∙ sym (y .leaves))
@@ -52,25 +54,25 @@ sign-once d m out t x y = (
   x .tallies ∙ sym (y .tallies),
 )
 
-pub verify-once : (h1 h2 : ℕ) (k : List ℕ) (t : ℕ) (m x : List ℕ) {a b : Verdict} {k₁ k₂ m₁ m₂ x₁ x₂ : List ℕ} → Verifies h1 h2 k t m x a k₁ m₁ x₁
-    → Verifies h1 h2 k t m x b k₂ m₂ x₂ → (a ≡ b) × (k₁ ≡ k₂) × (m₁ ≡ m₂) × (x₁ ≡ x₂)
-verify-once h1 h2 k t m x p q = (
+pub verify-once : (ht : Heights) (k : List ℕ) (t : ℕ) (m x : List ℕ) {a b : Verdict} {k₁ k₂ m₁ m₂ x₁ x₂ : List ℕ} → Verifies ht k t m x a k₁ m₁ x₁
+    → Verifies ht k t m x b k₂ m₂ x₂ → (a ≡ b) × (k₁ ≡ k₂) × (m₁ ≡ m₂) × (x₁ ≡ x₂)
+verify-once ht k t m x p q = (
   p .answers ∙ sym (q .answers),
   p .keeps-key ∙ sym (q .keeps-key),
   p .keeps-message ∙ sym (q .keeps-message),
   p .keeps-signature ∙ sym (q .keeps-signature),
 )
 
-pub make-listed : (h1 h2 : ℕ) (s d : List ℕ) → Among (makeOutcome h1 h2 s d) (makeListed h1 h2 s d)
+pub make-listed : (ht : Heights) (s d : List ℕ) → Among (makeOutcome ht s d) (makeListed ht s d)
 unfolding makeOutcome
-make-listed h1 h2 s d =
-    either (tooHigh h1 h2) (here refl)
-    (either (eqb (length s) 32) (either (eqb (length d) (tableSize h1 h2)) (there (there (there (here refl)))) (there (there (here refl)))) (there (here refl)))
+make-listed ht s d =
+    either (tooHigh ht) (here refl)
+    (either (eqb (length s) 32) (either (eqb (length d) (tableSize ht)) (there (there (there (here refl)))) (there (there (here refl)))) (there (here refl)))
 
-pub make-tallied-listed : (h1 h2 : ℕ) (s d : List ℕ) (t : ℕ) → Among (makeTallied h1 h2 s d t) (makeTalliedListed h1 h2 s d)
+pub make-tallied-listed : (ht : Heights) (s d : List ℕ) (t : ℕ) → Among (makeTallied ht s d t) (makeTalliedListed ht s d)
 unfolding makeTallied
-make-tallied-listed h1 h2 s d t =
-    with-silence (notMade Unanswered s d) (makeListed h1 h2 s d) (asked (makeOutcome h1 h2 s d .calls) t .given) (make-listed h1 h2 s d)
+make-tallied-listed ht s d t =
+    with-silence (notMade Unanswered s d) (makeListed ht s d) (asked (makeOutcome ht s d .calls) t .given) (make-listed ht s d)
 
 pub key-listed : (d out : List ℕ) → Among (keyOutcome d out) (keyListed d out)
 unfolding keyOutcome keyUnder headerOf
@@ -87,7 +89,7 @@ move-listed d b = go (wellFormed d)
     go : (f : Bool) → Among (moveUnder (notMoved NotLater d) (pick f (Good (headerIn d)) (Refused Table)) d b) (moveListed d b)
     go true =
         let x = headerIn d in
-        either (leb (steps (x .h1) (x .h2)) b) (there (here refl))
+        either (leb (steps (x .heights)) b) (there (here refl))
         (either (leb b (x .step)) (there (there (here refl))) (either (allows x b) (there (there (there (there (here refl))))) (there (there (there (here refl))))))
     go false = here refl
 
@@ -104,7 +106,7 @@ release-listed d w n = go (wellFormed d)
     go true =
         let x = headerIn d in
         either (ltb 1 w) (there (here refl))
-        (either (ltb n (stoodFor x w) || ltb (steps (x .h1) (x .h2)) n) (there (there (here refl))) (there (there (there (here refl)))))
+        (either (ltb n (stoodFor x w) || ltb (steps (x .heights)) n) (there (there (here refl))) (there (there (there (here refl)))))
     go false = here refl
 
 pub sign-listed : (d m out : List ℕ) → Among (signOutcome d m out) (signListed d m out)
@@ -115,7 +117,7 @@ sign-listed d m out = go (wellFormed d)
     go true =
         let x = headerIn d in
         either (ltb limit (length m)) (there (here refl))
-        (either (eqb (length out) (signatureSize (x .h1) (x .h2))) (there (there (there (here refl)))) (there (there (here refl))))
+        (either (eqb (length out) (signatureSize (x .heights))) (there (there (there (here refl)))) (there (there (here refl))))
     go false = here refl
 
 pub sign-tallied-listed : (d m out : List ℕ) (t : ℕ) → Among (signTallied d m out t) (signTalliedListed d m out)
@@ -123,19 +125,19 @@ unfolding signTallied
 sign-tallied-listed d m out t =
     with-silence (notSigned Unanswered d m out) (signListed d m out) (asked (signOutcome d m out .calls) t .given) (sign-listed d m out)
 
-pub verify-listed : (h1 h2 : ℕ) (k : List ℕ) (t : ℕ) (m x : List ℕ) → Among (verifyOutcome h1 h2 k t m x .answer) verifyListed
+pub verify-listed : (ht : Heights) (k : List ℕ) (t : ℕ) (m x : List ℕ) → Among (verifyOutcome ht k t m x .answer) verifyListed
 unfolding verifyOutcome verdictOf
-verify-listed h1 h2 k t m x =
-    let late = either (partVerdict k h1 (h2 ∷ []) t m x) (there (there (there (there (there (there (here refl))))))) (there (there (there (there (there (here refl)))))) in
-    let long = either (leb (steps h1 h2) t) (there (there (there (there (here refl))))) late in
+verify-listed ht k t m x =
+    let late = either (partVerdict k (ht .top) (belowOf ht) t m x) (there (there (there (there (there (there (here refl))))))) (there (there (there (there (there (here refl)))))) in
+    let long = either (leb (steps ht) t) (there (there (there (there (here refl))))) late in
     let size = either (ltb limit (length m)) (there (there (there (here refl)))) long in
-    let key = either (eqb (length x) (signatureSize h1 h2)) size (there (there (here refl))) in
-    either (tooHigh h1 h2) (here refl) (either (eqb (length k) 32) key (there (here refl)))
+    let key = either (eqb (length x) (signatureSize ht)) size (there (there (here refl))) in
+    either (tooHigh ht) (here refl) (either (eqb (length k) 32) key (there (here refl)))
 
 -- in document 01's numbers
-pub make-numbers : (h1 h2 : ℕ) (s d : List ℕ) → map (λ (o : MakeOutcome). grownTold (o .answer) .number) (makeTalliedListed h1 h2 s d) ≡ 1 ∷ 2 ∷ 4 ∷ 9 ∷ 0 ∷ []
+pub make-numbers : (ht : Heights) (s d : List ℕ) → map (λ (o : MakeOutcome). grownTold (o .answer) .number) (makeTalliedListed ht s d) ≡ 1 ∷ 2 ∷ 4 ∷ 9 ∷ 0 ∷ []
 unfolding beforeLast
-make-numbers h1 h2 s d = refl
+make-numbers ht s d = refl
 
 pub key-numbers : (d out : List ℕ) → map (λ (o : KeyOutcome). answerNumber (o .answer)) (keyListed d out) ≡ 3 ∷ 4 ∷ 0 ∷ []
 key-numbers d out = refl

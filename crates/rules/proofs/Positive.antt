@@ -15,9 +15,11 @@ use Rattle.refusal.specs.declared.Refusal.{Refusal}
 use Rattle.refusal.specs.declared.Refusal.the-variants.{Height, SeedOrKey, Length, NotLater, PastEnd, NotReleased}
 use Rattle.tree.specs.Move.{countMove, countNewAt}
 use Rattle.fields.proofs.Cases.{side}
+use Rattle.rules.specs.Trees.{belowOf, tooHigh}
+use Rattle.rules.specs.declared.Heights.{Heights}
 use Rattle.rules.specs.Part.{total, outer, inner, countNewPart, countPart}
 use Rattle.rules.specs.Table.{steps, tableSize, bodyIn, headerOf}
-use Rattle.rules.specs.Calls.{tooHigh, makeWork, made, notMade, makeOutcome, moveWork, moved, notMoved, allows, moveUnder, moveOutcome}
+use Rattle.rules.specs.Calls.{makeWork, newWork, made, notMade, makeOutcome, moveWork, partWork, moved, notMoved, allows, moveUnder, moveOutcome}
 use Rattle.rules.specs.declared.Found.{Found}
 use Rattle.rules.specs.declared.Found.the-variants as found
 use Rattle.rules.specs.declared.Grown.the-variants.{Done, Refused}
@@ -55,34 +57,34 @@ part-pos (g ∷ hs) h a b l u = go (part-pos hs) (eqb (outer (total g hs) a) (ou
     go ih false p = rw p (let k = new-pos hs g (inner (total g hs) b) in omega arith)
 
 -- as the calls tell them
-pub make-positive : (h1 h2 : ℕ) (s d : List ℕ) {n : ℕ} → makeOutcome h1 h2 s d .answer ≡ Done n → 0 < n
-unfolding makeOutcome makeWork
-make-positive h1 h2 s d {n} = go (tooHigh h1 h2) (eqb (length s) 32) (eqb (length d) (tableSize h1 h2))
+pub make-positive : (ht : Heights) (s d : List ℕ) {n : ℕ} → makeOutcome ht s d .answer ≡ Done n → 0 < n
+unfolding makeOutcome newWork
+make-positive ht s d {n} = go (tooHigh ht) (eqb (length s) 32) (eqb (length d) (tableSize ht))
   where
-    go : (p q r : Bool) → (pick p (notMade Height s d) (pick q (pick r (made h1 h2 (makeWork h1 h2 s)) (notMade Length s d)) (notMade SeedOrKey s d))) .answer ≡ Done n
+    go : (p q r : Bool) → (pick p (notMade Height s d) (pick q (pick r (made ht (makeWork ht s)) (notMade Length s d)) (notMade SeedOrKey s d))) .answer ≡ Done n
         → 0 < n
     go true q r t = absurd (grown-not (sym t))
     go false false r t = absurd (grown-not (sym t))
     go false true false t = absurd (grown-not (sym t))
     go false true true t =
-        let k : countNewPart h1 (h2 ∷ []) 0 ≡ n = cc in
-        let p = new-pos (h2 ∷ []) h1 0 in
+        let k : countNewPart (ht .top) (belowOf ht) 0 ≡ n = cc in
+        let p = new-pos (belowOf ht) (ht .top) 0 in
         omega arith
 
 pub move-positive : (d : List ℕ) (b : ℕ) {n : ℕ} → moveOutcome d b .answer ≡ Done n → 0 < n
-unfolding moveOutcome moveUnder moveWork
+unfolding moveOutcome moveUnder partWork
 move-positive d b {n} = go (headerOf d)
   where
     go : (f : Found) → moveUnder (notMoved NotLater d) f d b .answer ≡ Done n → 0 < n
     go (found.Refused why) t = absurd (grown-not (sym t))
-    go (found.Good x) t = under (leb (steps (x .h1) (x .h2)) b) (leb b (x .step)) (allows x b) refl refl t
+    go (found.Good x) t = under (leb (steps (x .heights)) b) (leb b (x .step)) (allows x b) refl refl t
       where
-        under : (p q r : Bool) → leb (steps (x .h1) (x .h2)) b ≡ p → leb b (x .step) ≡ q
+        under : (p q r : Bool) → leb (steps (x .heights)) b ≡ p → leb b (x .step) ≡ q
             → (pick p (notMoved PastEnd d) (pick q (notMoved NotLater d) (pick r (moved x b (moveWork x (bodyIn d) b)) (notMoved NotReleased d)))) .answer ≡ Done n → 0 < n
         under true q r e f t = absurd (grown-not (sym t))
         under false true r e f t = absurd (grown-not (sym t))
         under false false false e f t = absurd (grown-not (sym t))
         under false false true e f t =
-            let k : countPart (x .h1) (x .h2 ∷ []) (x .step) b ≡ n = cc in
-            let p = part-pos (x .h2 ∷ []) (x .h1) (x .step) b (leb-false b (x .step) f) (leb-false (steps (x .h1) (x .h2)) b e) in
+            let k : countPart (x .heights .top) (belowOf (x .heights)) (x .step) b ≡ n = cc in
+            let p = part-pos (belowOf (x .heights)) (x .heights .top) (x .step) b (leb-false b (x .step) f) (leb-false (steps (x .heights)) b e) in
             omega arith

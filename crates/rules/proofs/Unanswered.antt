@@ -6,28 +6,31 @@ use mathlib.Core.List.{List, [], _∷_}
 use mathlib.Core.Bool.{Bool, true, false}
 use Prim.Native.Nat.{ℕ, _+_, _^_, _≤_, _<_}
 use native.Mathlib.Omega.{arith}
-use lib.Dec.{eqb}
+use lib.ListN.{length}
 use Rattle.fields.specs.Tests.{pick}
 use Rattle.fields.proofs.Lists.{of-listed}
 use Rattle.refusal.specs.declared.Refusal.{Refusal}
 use Rattle.refusal.specs.declared.Refusal.the-variants.{Unanswered}
 use Rattle.ed25519.specs.Tally.{Run, asked, passed, Exactly}
 use Rattle.ed25519.proofs.Passed.{nine, passes}
-use Rattle.rules.specs.Part.{outer, countNewPart, countPart, callsNewPart, callsPart, rootsPart}
+use Rattle.rules.specs.Trees.{belowOf, twoOrThree}
+use Rattle.rules.specs.declared.Heights.{Heights}
+use Rattle.rules.specs.Part.{countNewPart, countPart, callsNewPart, callsPart, rootsPart}
 use Rattle.rules.specs.Table.{headerIn}
 use Rattle.refusal.specs.Numbers.{answerNumber}
 use Rattle.rules.specs.Answers.{grownTold}
-use Rattle.rules.specs.Calls.{makeWork, Makes, MakeOutcome, notMade, makeOutcome, makeTallied}
-use Rattle.rules.specs.Calls.{moveWork, Moves, MoveOutcome, notMoved, moveOutcome, moveTallied}
+use Rattle.rules.specs.Calls.{newWork, Makes, MakeOutcome, notMade, makeOutcome, makeTallied}
+use Rattle.rules.specs.Calls.{partWork, Moves, MoveOutcome, notMoved, moveOutcome, moveTallied}
 use Rattle.rules.specs.Calls.{Signs, SignOutcome, notSigned, signOutcome, signTallied}
 use Rattle.rules.specs.Listed.{makeListed, moveListed, signListed}
 use Rattle.rules.specs.declared.Grown.{Grown}
 use Rattle.rules.specs.declared.Grown.the-variants as grown
 use Rattle.refusal.specs.declared.Answer.{Answer}
 use Rattle.refusal.specs.declared.Answer.the-variants as answer
-use Rattle.rules.proofs.Bounds.{new-calls, part-calls}
+use Rattle.rules.proofs.Bounds.{new-calls, part-calls, part-roots}
 use Rattle.rules.proofs.Once.{make-listed, move-listed, sign-listed}
-use Rattle.rules.proofs.Small.{make-small, move-small}
+use Rattle.rules.proofs.Small.{make-small, move-key, move-small}
+use Rattle.rules.proofs.Trees.{few-below}
 use Rattle.rules.proofs.Untouched.{grown-not, answer-not}
 
 -- what is said of a chosen outcome is chosen
@@ -45,10 +48,10 @@ pub done-heard : {O : Type 0} (says : O → Grown) (x y : O) {n : ℕ} (g : Bool
 done-heard says x y true f e = e
 done-heard says x y false f e = absurd (f e)
 
-pub make-tallied-done : (h1 h2 : ℕ) (s d : List ℕ) (t : ℕ) {n : ℕ} → makeTallied h1 h2 s d t .answer ≡ grown.Done n → makeOutcome h1 h2 s d .answer ≡ grown.Done n
+pub make-tallied-done : (ht : Heights) (s d : List ℕ) (t : ℕ) {n : ℕ} → makeTallied ht s d t .answer ≡ grown.Done n → makeOutcome ht s d .answer ≡ grown.Done n
 unfolding makeTallied
-make-tallied-done h1 h2 s d t =
-    done-heard (λ (o : MakeOutcome). o .answer) (makeOutcome h1 h2 s d) (notMade Unanswered s d) (asked (makeOutcome h1 h2 s d .calls) t .given)
+make-tallied-done ht s d t =
+    done-heard (λ (o : MakeOutcome). o .answer) (makeOutcome ht s d) (notMade Unanswered s d) (asked (makeOutcome ht s d .calls) t .given)
     (λ e. grown-not (sym e))
 
 pub move-tallied-done : (d : List ℕ) (b t : ℕ) {n : ℕ} → moveTallied d b t .answer ≡ grown.Done n → moveOutcome d b .answer ≡ grown.Done n
@@ -57,50 +60,53 @@ move-tallied-done d b t =
     done-heard (λ (o : MoveOutcome). o .answer) (moveOutcome d b) (notMoved Unanswered d) (asked (moveOutcome d b .calls) t .given) (λ e. grown-not (sym e))
 
 -- make
-abbrev makeCount : ℕ → ℕ → ℕ
-makeCount h1 h2 = countNewPart h1 (h2 ∷ []) 0
+abbrev makeCount : Heights → ℕ
+makeCount ht = countNewPart (ht .top) (belowOf ht) 0
 
-module _ (h1 h2 : ℕ) (s d : List ℕ) where
-  make-not-9 : makeOutcome h1 h2 s d .answer ≡ grown.Refused Unanswered → ⊥
+abbrev makeRoots : Heights → ℕ
+makeRoots ht = length (belowOf ht)
+
+module _ (ht : Heights) (s d : List ℕ) where
+  make-not-9 : makeOutcome ht s d .answer ≡ grown.Refused Unanswered → ⊥
   make-not-9 e =
-      of-listed (λ (o : MakeOutcome). grownTold (o .answer) .number ≡ 9 → ⊥) (makeListed h1 h2 s d)
-      (λ z. omega arith, (λ z. omega arith, (λ z. omega arith, (λ z. omega arith, tt)))) (make-listed h1 h2 s d)
+      of-listed (λ (o : MakeOutcome). grownTold (o .answer) .number ≡ 9 → ⊥) (makeListed ht s d)
+      (λ z. omega arith, (λ z. omega arith, (λ z. omega arith, (λ z. omega arith, tt)))) (make-listed ht s d)
       (ap (λ (a : Grown). grownTold a .number) e)
 
-  make-calls : (makeOutcome h1 h2 s d .calls ≡ 0) ⊎ ((makeOutcome h1 h2 s d .answer ≡ grown.Done (makeCount h1 h2)) × (makeOutcome h1 h2 s d .calls ≤ makeCount h1 h2 + 1))
-  unfolding makeWork
+  make-calls : (makeOutcome ht s d .calls ≡ 0) ⊎ ((makeOutcome ht s d .answer ≡ grown.Done (makeCount ht)) × (makeOutcome ht s d .calls ≤ makeCount ht + makeRoots ht))
+  unfolding newWork
   make-calls =
-      of-listed (λ (o : MakeOutcome). (o .calls ≡ 0) ⊎ ((o .answer ≡ grown.Done (makeCount h1 h2)) × (o .calls ≤ makeCount h1 h2 + 1))) (makeListed h1 h2 s d)
-      (inl refl, (inl refl, (inl refl, (inr (refl, new-calls (h2 ∷ []) h1 0), tt)))) (make-listed h1 h2 s d)
+      of-listed (λ (o : MakeOutcome). (o .calls ≡ 0) ⊎ ((o .answer ≡ grown.Done (makeCount ht)) × (o .calls ≤ makeCount ht + makeRoots ht))) (makeListed ht s d)
+      (inl refl, (inl refl, (inl refl, (inr (refl, new-calls (belowOf ht) (ht .top) 0), tt)))) (make-listed ht s d)
 
-  make-few : (makeOutcome h1 h2 s d .calls < 2 ^ 64) × (makeOutcome h1 h2 s d .calls ≤ makeCount h1 h2 + 1)
-  make-few = elim make-calls [
+  make-few : twoOrThree ht ≡ true → (makeOutcome ht s d .calls < 2 ^ 64) × (makeOutcome ht s d .calls ≤ makeCount ht + makeRoots ht)
+  make-few f = elim make-calls [
     | inl z ↦ (omega arith, omega arith)
-    | inr p ↦ (let l = make-small h1 h2 s d (p .0) in let q = p .1 in omega arith, p .1)
+    | inr p ↦ (let l = make-small ht s d f (p .0) in let q = p .1 in let r = few-below ht f in omega arith, p .1)
   ]
 
-  make-refused : (why : Refusal) → makeOutcome h1 h2 s d .answer ≡ grown.Refused why → makeOutcome h1 h2 s d .calls ≡ 0
+  make-refused : (why : Refusal) → makeOutcome ht s d .answer ≡ grown.Refused why → makeOutcome ht s d .calls ≡ 0
   make-refused why =
-      of-listed (λ (o : MakeOutcome). o .answer ≡ grown.Refused why → o .calls ≡ 0) (makeListed h1 h2 s d)
-      (λ e. refl, (λ e. refl, (λ e. refl, (λ e. absurd (grown-not e), tt)))) (make-listed h1 h2 s d)
+      of-listed (λ (o : MakeOutcome). o .answer ≡ grown.Refused why → o .calls ≡ 0) (makeListed ht s d)
+      (λ e. refl, (λ e. refl, (λ e. refl, (λ e. absurd (grown-not e), tt)))) (make-listed ht s d)
 
-  module _ {t t′ : ℕ} {a : Grown} {s′ d′ : List ℕ} (m : Makes h1 h2 s d t a s′ d′ t′) where
-    make-chosen : a ≡ pick (asked (makeOutcome h1 h2 s d .calls) t .given) (makeOutcome h1 h2 s d .answer) (grown.Refused Unanswered)
+  module _ {t t′ : ℕ} {a : Grown} {s′ d′ : List ℕ} (m : Makes ht s d t a s′ d′ t′) where
+    make-chosen : a ≡ pick (asked (makeOutcome ht s d .calls) t .given) (makeOutcome ht s d .answer) (grown.Refused Unanswered)
     unfolding makeTallied
-    make-chosen = m .answers ∙ says-pick (λ (o : MakeOutcome). o .answer) (makeOutcome h1 h2 s d) (notMade Unanswered s d) (asked (makeOutcome h1 h2 s d .calls) t .given)
+    make-chosen = m .answers ∙ says-pick (λ (o : MakeOutcome). o .answer) (makeOutcome ht s d) (notMade Unanswered s d) (asked (makeOutcome ht s d .calls) t .given)
 
-    pub make-nine : t < 2 ^ 64 → Exactly (a ≡ grown.Refused Unanswered) t t′
-    make-nine u = nine (makeOutcome h1 h2 s d .calls) t u (make-few .0) make-not-9 make-chosen (m .tallies)
+    pub make-nine : twoOrThree ht ≡ true → t < 2 ^ 64 → Exactly (a ≡ grown.Refused Unanswered) t t′
+    make-nine f u = nine (makeOutcome ht s d .calls) t u (make-few f .0) make-not-9 make-chosen (m .tallies)
 
-    -- at most the rules' count, and one for the root signed
-    pub make-passes : t < 2 ^ 64 → passed t t′ ≤ makeCount h1 h2 + 1
-    make-passes u = passes (makeOutcome h1 h2 s d .calls) t u (make-few .0) (m .tallies) (make-few .1)
+    -- at most the rules' count, and one for each root signed
+    pub make-passes : twoOrThree ht ≡ true → t < 2 ^ 64 → passed t t′ ≤ makeCount ht + makeRoots ht
+    make-passes f u = passes (makeOutcome ht s d .calls) t u (make-few f .0) (m .tallies) (make-few f .1)
 
     pub make-given : (a ≡ grown.Refused Unanswered → ⊥)
-        → (a ≡ makeOutcome h1 h2 s d .answer) × (s′ ≡ makeOutcome h1 h2 s d .seed) × (d′ ≡ makeOutcome h1 h2 s d .table)
+        → (a ≡ makeOutcome ht s d .answer) × (s′ ≡ makeOutcome ht s d .seed) × (d′ ≡ makeOutcome ht s d .table)
     unfolding makeTallied
     make-given n =
-        let y = heard (makeOutcome h1 h2 s d .answer) (asked (makeOutcome h1 h2 s d .calls) t .given) make-chosen n in
+        let y = heard (makeOutcome ht s d .answer) (asked (makeOutcome ht s d .calls) t .given) make-chosen n in
         (m .answers ∙ rw y, m .zeroes ∙ rw y, m .leaves ∙ rw y)
 
     pub make-tally-left : {why : Refusal} → a ≡ grown.Refused why → (a ≡ grown.Refused Unanswered → ⊥) → t′ ≡ t
@@ -109,18 +115,10 @@ module _ (h1 h2 : ℕ) (s d : List ℕ) where
 
 -- move: at most the count, and one for each root signed
 abbrev pub moveCount : List ℕ → ℕ → ℕ
-moveCount d b = let x = headerIn d in countPart (x .h1) (x .h2 ∷ []) (x .step) b
+moveCount d b = let x = headerIn d in countPart (x .heights .top) (belowOf (x .heights)) (x .step) b
 
 abbrev pub moveRoots : List ℕ → ℕ → ℕ
-moveRoots d b = let x = headerIn d in rootsPart (x .h1) (x .h2 ∷ []) (x .step) b
-
-one-root : (h1 h2 a b : ℕ) → rootsPart h1 (h2 ∷ []) a b ≤ 1
-unfolding rootsPart
-one-root h1 h2 a b = go (eqb (outer h2 a) (outer h2 b))
-  where
-    go : (x : Bool) → pick x 0 1 ≤ 1
-    go true = omega arith
-    go false = omega arith
+moveRoots d b = let x = headerIn d in rootsPart (x .heights .top) (belowOf (x .heights)) (x .step) b
 
 module _ (d : List ℕ) (b : ℕ) where
   move-not-9 : moveOutcome d b .answer ≡ grown.Refused Unanswered → ⊥
@@ -130,18 +128,24 @@ module _ (d : List ℕ) (b : ℕ) where
       (ap (λ (a : Grown). grownTold a .number) e)
 
   move-calls : (moveOutcome d b .calls ≡ 0) ⊎ ((moveOutcome d b .answer ≡ grown.Done (moveCount d b)) × (moveOutcome d b .calls ≤ moveCount d b + moveRoots d b))
-  unfolding moveWork
+  unfolding partWork
   move-calls =
       let x = headerIn d in
       of-listed (λ (o : MoveOutcome). (o .calls ≡ 0) ⊎ ((o .answer ≡ grown.Done (moveCount d b)) × (o .calls ≤ moveCount d b + moveRoots d b))) (moveListed d b)
-      (inl refl, (inl refl, (inl refl, (inl refl, (inr (refl, part-calls (x .h2 ∷ []) (x .h1) (x .step) b), tt))))) (move-listed d b)
+      (inl refl, (inl refl, (inl refl, (inl refl, (inr (refl, part-calls (belowOf (x .heights)) (x .heights .top) (x .step) b), tt))))) (move-listed d b)
+
+  move-roots : {n : ℕ} → moveOutcome d b .answer ≡ grown.Done n → moveRoots d b ≤ 2
+  move-roots e =
+      let x = headerIn d in
+      let r = part-roots (belowOf (x .heights)) (x .heights .top) (x .step) b in
+      let f = few-below (x .heights) (move-key d b e .0) in
+      omega arith
 
   move-few : (moveOutcome d b .calls < 2 ^ 64) × (moveOutcome d b .calls ≤ moveCount d b + moveRoots d b)
   move-few = elim move-calls [
     | inl z ↦ (omega arith, omega arith)
     | inr p ↦
-        let x = headerIn d in
-        (let l = move-small d b (p .0) in let q = p .1 in let r = one-root (x .h1) (x .h2) (x .step) b in omega arith, p .1)
+        (let l = move-small d b (p .0) in let q = p .1 in let r = move-roots (p .0) in omega arith, p .1)
   ]
 
   move-refused : (why : Refusal) → moveOutcome d b .answer ≡ grown.Refused why → moveOutcome d b .calls ≡ 0

@@ -7,6 +7,7 @@ use native.Mathlib.Omega.{arith}
 use Rattle.refusal.specs.declared.Refusal.{Refusal}
 use Rattle.fields.specs.Lists.{beforeLast}
 use Rattle.fields.proofs.Lists.{of-listed}
+use Rattle.rules.specs.declared.Heights.{Heights}
 use Rattle.rules.specs.Calls.{MakeOutcome, makeTallied, KeyOutcome, keyOutcome, MoveOutcome, moveTallied, ReleaseOutcome, releaseOutcome, SignOutcome, signTallied, VerifyOutcome, verifyOutcome}
 use Rattle.rules.specs.Listed.{makeTalliedListed, keyListed, moveTalliedListed, releaseListed, signTalliedListed}
 use Rattle.rules.specs.declared.Grown.the-variants as grown
@@ -19,13 +20,13 @@ grown-not e = let z : _≡_ {A = ℕ} 0 1 = cc in omega arith
 pub answer-not : {why : Refusal} → answer.Done ≡ answer.Refused why → ⊥
 answer-not e = let z : _≡_ {A = ℕ} 0 1 = cc in omega arith
 
-pub make-untouched : (h1 h2 : ℕ) (s d : List ℕ) (t : ℕ) (why : Refusal) → makeTallied h1 h2 s d t .answer ≡ grown.Refused why
-    → (makeTallied h1 h2 s d t .seed ≡ s) × (makeTallied h1 h2 s d t .table ≡ d)
+pub make-untouched : (ht : Heights) (s d : List ℕ) (t : ℕ) (why : Refusal) → makeTallied ht s d t .answer ≡ grown.Refused why
+    → (makeTallied ht s d t .seed ≡ s) × (makeTallied ht s d t .table ≡ d)
 unfolding beforeLast
-make-untouched h1 h2 s d t why =
-    of-listed (λ (o : MakeOutcome). o .answer ≡ grown.Refused why → (o .seed ≡ s) × (o .table ≡ d)) (makeTalliedListed h1 h2 s d)
+make-untouched ht s d t why =
+    of-listed (λ (o : MakeOutcome). o .answer ≡ grown.Refused why → (o .seed ≡ s) × (o .table ≡ d)) (makeTalliedListed ht s d)
     (λ e. (refl, refl), (λ e. (refl, refl), (λ e. (refl, refl), (λ e. (refl, refl), (λ e. absurd (grown-not e), tt)))))
-    (make-tallied-listed h1 h2 s d t)
+    (make-tallied-listed ht s d t)
 
 pub key-untouched : (d out : List ℕ) (why : Refusal) → keyOutcome d out .answer ≡ answer.Refused why
     → (keyOutcome d out .table ≡ d) × (keyOutcome d out .out ≡ out)
@@ -53,7 +54,7 @@ sign-untouched d m out t why =
     (sign-tallied-listed d m out t)
 
 -- and verify in every case
-pub verify-untouched : (h1 h2 : ℕ) (k : List ℕ) (t : ℕ) (m x : List ℕ)
-    → (verifyOutcome h1 h2 k t m x .key ≡ k) × (verifyOutcome h1 h2 k t m x .message ≡ m) × (verifyOutcome h1 h2 k t m x .signature ≡ x)
+pub verify-untouched : (ht : Heights) (k : List ℕ) (t : ℕ) (m x : List ℕ)
+    → (verifyOutcome ht k t m x .key ≡ k) × (verifyOutcome ht k t m x .message ≡ m) × (verifyOutcome ht k t m x .signature ≡ x)
 unfolding verifyOutcome
-verify-untouched h1 h2 k t m x = (refl, refl, refl)
+verify-untouched ht k t m x = (refl, refl, refl)

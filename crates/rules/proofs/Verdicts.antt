@@ -10,6 +10,7 @@ use Rattle.rfc7693.specs.Rfc7693.{rotr, word, byte, IV, SIGMA, add3, add2, turn
 use Rattle.ed25519.specs.Ed25519.{accepts}
 use Rattle.tree.specs.Sum.{climb, pathFits, leafAccepts, sumVerdict}
 use Rattle.rules.specs.Part.{sumsVerdict, partVerdict}
+use Rattle.rules.specs.Trees.{two, three}
 use Rattle.rules.specs.Calls.{VerifyOutcome, verdictOf, verifyOutcome}
 use Rattle.rules.specs.declared.Verdict.the-variants.{Accepted, Rejected}
 
@@ -36,22 +37,27 @@ unfolding leafHash onLeft rotr word byte IV SIGMA add3 add2 turn G MIXINGS mixin
 on-left = refl
 
 -- zeros alone: the hash of zeros is not zeros
-pub zeros-rejected : verifyOutcome 0 0 (replicate 32 0) 0 [] (replicate 224 0) .answer ≡ Rejected
+pub zeros-rejected : verifyOutcome (two 0 0) (replicate 32 0) 0 [] (replicate 224 0) .answer ≡ Rejected
 unfolding verifyOutcome verdictOf partVerdict sumsVerdict sumVerdict pathFits climb same leafHash
 zeros-rejected = rw leaf-hash
 
 -- the parent's path does not fit
-pub parent-rejected : verifyOutcome 1 0 onRight 0 [] (replicate 224 0 ++ leafHash) .answer ≡ Rejected
+pub parent-rejected : verifyOutcome (two 1 0) onRight 0 [] (replicate 224 0 ++ leafHash) .answer ≡ Rejected
 unfolding verifyOutcome verdictOf partVerdict sumsVerdict sumVerdict pathFits climb same leafHash onRight onLeft
 parent-rejected = rw (leaf-hash, on-left)
 
 -- the child's does not
-pub child-rejected : verifyOutcome 1 0 onRight 1 [] (replicate 256 0) .answer ≡ Rejected
+pub child-rejected : verifyOutcome (two 1 0) onRight 1 [] (replicate 256 0) .answer ≡ Rejected
 unfolding verifyOutcome verdictOf partVerdict sumsVerdict sumVerdict pathFits climb same leafHash onRight
 child-rejected = rw (leaf-hash, on-right, and-false)
 
 -- both fit
-pub decided : verifyOutcome 1 0 onRight 1 [] (replicate 224 0 ++ leafHash) .answer ≡
+pub decided : verifyOutcome (two 1 0) onRight 1 [] (replicate 224 0 ++ leafHash) .answer ≡
     pick (accepts (replicate 32 0) leafHash (replicate 64 0) && accepts (replicate 32 0) [] (replicate 64 0)) Accepted Rejected
 unfolding verifyOutcome verdictOf partVerdict sumsVerdict sumVerdict pathFits leafAccepts climb same leafHash onRight
 decided = rw (leaf-hash, on-right)
+
+-- three trees, of which the middle's path alone does not fit
+pub middle-rejected : verifyOutcome (three 0 0 0) leafHash 0 [] (replicate 320 0 ++ leafHash) .answer ≡ Rejected
+unfolding verifyOutcome verdictOf partVerdict sumsVerdict sumVerdict pathFits climb same leafHash
+middle-rejected = rw (leaf-hash, and-false)

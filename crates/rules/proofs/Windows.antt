@@ -6,9 +6,8 @@ use mathlib.Core.Bool.{Bool, true, false, _||_}
 use Prim.Native.Nat.{ℕ, zero, suc, _+_, _^_, _≤_, _<_}
 use native.Mathlib.Omega.{arith}
 use lib.Dec.{ltb, eqb}
-use lib.ListN.{length, take, drop, getD, length-append}
+use lib.ListN.{length, take, drop, length-append}
 use lib.Seq.{drop-at, drop-drop, take-append-le, take-take, drop-append-add, length-take-le}
-use lib.Pow.{pow-mono}
 use borrow.Author.Tests.{ltb-false, lt-ltb}
 use Rattle.refusal.specs.declared.Answer.{Answer}
 use Rattle.refusal.specs.declared.Answer.the-variants as answer
@@ -25,7 +24,8 @@ use Rattle.fields.proofs.Lists.{of-listed}
 use Rattle.refusal.specs.declared.Refusal.the-variants.{Table, Length, TooLong, Window, Lowered}
 use Rattle.ed25519.specs.Tally.{Run, asked}
 use Rattle.rules.specs.Part.{partSignature}
-use Rattle.rules.specs.Table.{steps, signatureSize, header, windowAt, headerIn, wellFormed, bodyIn, headerOf}
+use Rattle.rules.specs.Trees.{belowOf}
+use Rattle.rules.specs.Table.{steps, signatureSize, header, windowAt, heightsIn, headerIn, wellFormed, bodyIn, headerOf}
 use Rattle.rules.specs.Calls.{ReleaseOutcome, refusedRelease, released, stoodFor, releaseUnder, releaseOutcome}
 use Rattle.rules.specs.Calls.{SignOutcome, notSigned, signUnder, signOutcome, signTallied}
 use Rattle.rules.specs.Listed.{signTalliedListed}
@@ -33,6 +33,7 @@ use Rattle.rules.specs.Windows.{releasedBy, Commute, EitherWindow, AtWin
 use Rattle.rules.specs.declared.Header.{Header}
 use Rattle.rules.specs.declared.Found.{Found}
 use Rattle.rules.specs.declared.Found.the-variants as found
+use Rattle.rules.proofs.Trees.{steps-small}
 use Rattle.rules.proofs.Headers.{Formed, formed, good, bad, not-formed}
 use Rattle.rules.proofs.Once.{sign-tallied-listed}
 
@@ -59,32 +60,31 @@ pub record After (d d′ : List ℕ) (x : Header) : Type 0 where
   pub says : headerOf d′ ≡ found.Good x
   pub body : bodyIn d′ ≡ bodyIn d
 
-small : (h1 h2 n : ℕ) → h1 ≤ 12 → h2 ≤ 12 → n ≤ steps h1 h2 → n < 2 ^ 32
-small h1 h2 n l1 l2 u = let k = pow-mono {i = h1 + h2} {j = 24} (omega arith) in omega arith
-
 module _ (n : ℕ) where
   First : List ℕ → Type 0
-  First y = Formed y → n ≤ steps (getD y 0 0) (getD y 1 0) → After y (put y 8 4 (fourBytes n)) (header (getD y 0 0) (getD y 1 0) (fourIn y 4) n (fourIn y 12))
+  First y = Formed y → n ≤ steps (heightsIn y) → After y (put y 8 4 (fourBytes n)) (header (heightsIn y) (fourIn y 4) n (fourIn y 12))
 
   Second : List ℕ → Type 0
-  Second y = Formed y → n ≤ steps (getD y 0 0) (getD y 1 0) → After y (put y 12 4 (fourBytes n)) (header (getD y 0 0) (getD y 1 0) (fourIn y 4) (fourIn y 8) n)
+  Second y = Formed y → n ≤ steps (heightsIn y) → After y (put y 12 4 (fourBytes n)) (header (heightsIn y) (fourIn y 4) (fourIn y 8) n)
 
   first-written : (a0 a1 a2 a3 b0 b1 b2 b3 c0 c1 c2 c3 e0 e1 e2 e3 : ℕ) (z : List ℕ)
       → First (a0 ∷ a1 ∷ a2 ∷ a3 ∷ b0 ∷ b1 ∷ b2 ∷ b3 ∷ c0 ∷ c1 ∷ c2 ∷ c3 ∷ e0 ∷ e1 ∷ e2 ∷ e3 ∷ z)
   unfolding First headerIn fourIn
   first-written a0 a1 a2 a3 b0 b1 b2 b3 c0 c1 c2 c3 e0 e1 e2 e3 z v u =
-      let k = four-back n (small a0 a1 n (v .low1) (v .low2) u) in
+      let t = steps-small (record { trees = a2 + 1; top = a0; second = a1; third = a3 }) (v .key) in
+      let k = four-back n (let z : n < 2 ^ 32 = omega arith in z) in
       let y = a0 ∷ a1 ∷ a2 ∷ a3 ∷ b0 ∷ b1 ∷ b2 ∷ b3 ∷ (fourBytes n ++ (e0 ∷ e1 ∷ e2 ∷ e3 ∷ z)) in
-      let w : Formed y = record { long = v .long; low1 = v .low1; low2 = v .low2; two = v .two; three = v .three; exact = v .exact; soon = v .soon; need1 = rw k u; need2 = v .need2 } in
+      let w : Formed y = record { long = v .long; key = v .key; exact = v .exact; soon = v .soon; need1 = rw k u; need2 = v .need2 } in
       record { says = good y w ∙ rw k; body = refl }
 
   second-written : (a0 a1 a2 a3 b0 b1 b2 b3 c0 c1 c2 c3 e0 e1 e2 e3 : ℕ) (z : List ℕ)
       → Second (a0 ∷ a1 ∷ a2 ∷ a3 ∷ b0 ∷ b1 ∷ b2 ∷ b3 ∷ c0 ∷ c1 ∷ c2 ∷ c3 ∷ e0 ∷ e1 ∷ e2 ∷ e3 ∷ z)
   unfolding Second headerIn fourIn
   second-written a0 a1 a2 a3 b0 b1 b2 b3 c0 c1 c2 c3 e0 e1 e2 e3 z v u =
-      let k = four-back n (small a0 a1 n (v .low1) (v .low2) u) in
+      let t = steps-small (record { trees = a2 + 1; top = a0; second = a1; third = a3 }) (v .key) in
+      let k = four-back n (let z : n < 2 ^ 32 = omega arith in z) in
       let y = a0 ∷ a1 ∷ a2 ∷ a3 ∷ b0 ∷ b1 ∷ b2 ∷ b3 ∷ c0 ∷ c1 ∷ c2 ∷ c3 ∷ (fourBytes n ++ z) in
-      let w : Formed y = record { long = v .long; low1 = v .low1; low2 = v .low2; two = v .two; three = v .three; exact = v .exact; soon = v .soon; need1 = v .need1; need2 = rw k u } in
+      let w : Formed y = record { long = v .long; key = v .key; exact = v .exact; soon = v .soon; need1 = v .need1; need2 = rw k u } in
       record { says = good y w ∙ rw k; body = refl }
 
   after-first : (d : List ℕ) → First d
@@ -119,7 +119,7 @@ answer-picked false y z w n = refl
 -- OF A WELL-FORMED TABLE: a release by either window after anything that the other has done
 module _ (d : List ℕ) (w : Formed d) where
   T : ℕ
-  T = steps (getD d 0 0) (getD d 1 0)
+  T = steps (heightsIn d)
 
   no1 : ℕ → Bool
   no1 n = ltb n (fourIn d 8) || ltb T n
@@ -214,12 +214,12 @@ module _ (m out : List ℕ) where
   same-picked false true sig y z = (refl, refl)
   same-picked false false sig y z = (refl, refl)
 
-  same-said : (d d′ : List ℕ) (x x′ : Header) → headerOf d ≡ found.Good x → headerOf d′ ≡ found.Good x′ → x′ .h1 ≡ x .h1 → x′ .h2 ≡ x .h2 → x′ .step ≡ x .step
+  same-said : (d d′ : List ℕ) (x x′ : Header) → headerOf d ≡ found.Good x → headerOf d′ ≡ found.Good x′ → x′ .heights ≡ x .heights → x′ .step ≡ x .step
       → bodyIn d′ ≡ bodyIn d → Same d′ d
   unfolding signOutcome signUnder
-  same-said d d′ x x′ e e′ p q r k =
-      rw (e, e′, p, q, r, k)
-      (same-picked (ltb limit (length m)) (eqb (length out) (signatureSize (x .h1) (x .h2))) (partSignature (bodyIn d) (x .h1) (x .h2 ∷ []) (x .step) m) d′ d)
+  same-said d d′ x x′ e e′ p r k =
+      rw (e, e′, p, r, k)
+      (same-picked (ltb limit (length m)) (eqb (length out) (signatureSize (x .heights))) (partSignature (bodyIn d) (x .heights .top) (belowOf (x .heights)) (x .step) m) d′ d)
 
   same-table : (d d′ : List ℕ) → d′ ≡ d → Same d′ d
   same-table d d′ e = rw e (refl, refl)
@@ -230,14 +230,14 @@ module _ (m out : List ℕ) where
   same-first d w n true e = (refl, refl)
   same-first d w n false e =
       let k = after-first n d w (up1 d w n e) in
-      same-said d (put d 8 4 (fourBytes n)) (headerIn d) (header (getD d 0 0) (getD d 1 0) (fourIn d 4) n (fourIn d 12)) (good d w) (k .says) refl refl refl (k .body)
+      same-said d (put d 8 4 (fourBytes n)) (headerIn d) (header (heightsIn d) (fourIn d 4) n (fourIn d 12)) (good d w) (k .says) refl refl (k .body)
 
   same-second : (d : List ℕ) (w : Formed d) (n : ℕ) (p : Bool) → no2 d w n ≡ p → Same (pick p d (put d 12 4 (fourBytes n))) d
   unfolding Second headerIn T
   same-second d w n true e = (refl, refl)
   same-second d w n false e =
       let k = after-second n d w (up2 d w n e) in
-      same-said d (put d 12 4 (fourBytes n)) (headerIn d) (header (getD d 0 0) (getD d 1 0) (fourIn d 4) (fourIn d 8) n) (good d w) (k .says) refl refl refl (k .body)
+      same-said d (put d 12 4 (fourBytes n)) (headerIn d) (header (heightsIn d) (fourIn d 4) (fourIn d 8) n) (good d w) (k .says) refl refl (k .body)
 
   no-window : (d : List ℕ) (w n : ℕ) → Formed d → 1 < w → releaseOutcome d w n ≡ refusedRelease Window d
   unfolding releaseOutcome releaseUnder

@@ -16,7 +16,9 @@ use Rattle.refusal.specs.declared.Refusal.the-variants.{Height, SeedOrKey, Leng
 use Rattle.ed25519.specs.Tally.{Run, asked}
 use Rattle.tree.specs.Tree.{zeros, rootIn}
 use Rattle.rules.specs.Part.{partAt, movedPart, countNewPart, countPart, callsNewPart, callsPart, partSignature, partVerdict}
-use Rattle.rules.specs.Table.{maxHeight, steps, tableSize, signatureSize, header, atStep, headerBytes, windowAt, bodyIn, headerOf}
+use Rattle.rules.specs.Trees.{belowOf, tooHigh}
+use Rattle.rules.specs.Table.{steps, tableSize, signatureSize, header, atStep, headerBytes, windowAt, bodyIn, headerOf}
+use Rattle.rules.specs.declared.Heights.{Heights}
 use Rattle.rules.specs.declared.Header.{Header}
 use Rattle.rules.specs.declared.Found.{Found}
 use Rattle.rules.specs.declared.Found.the-variants as found
@@ -27,20 +29,24 @@ use Rattle.refusal.specs.declared.Answer.the-variants as answer
 use Rattle.rules.specs.declared.Verdict.{Verdict}
 use Rattle.rules.specs.declared.Verdict.the-variants as verdict
 
-abbrev pub tooHigh : ℕ → ℕ → Bool
-tooHigh h1 h2 = ltb maxHeight h1 || ltb maxHeight h2
-
--- The work of make and of move after their checks, over the body alone: the module calls it makes, the count, and the body left where all were answered.
+-- The work that grows a new part and that moves one, and so of make and of move after their checks, over the body alone: the module calls it makes, the count,
+-- and the body left where all were answered.
 pub record Work : Type 0 where
   pub calls : ℕ
   pub count : ℕ
   pub body : List ℕ
 
-unfoldable pub makeWork : ℕ → ℕ → List ℕ → Work
-makeWork h1 h2 s = record { calls = callsNewPart h1 (h2 ∷ []); count = countNewPart h1 (h2 ∷ []) 0; body = partAt s h1 (h2 ∷ []) 0 }
+unfoldable pub newWork : List ℕ → ℕ → List ℕ → ℕ → Work
+newWork s h hs t = record { calls = callsNewPart h hs; count = countNewPart h hs t; body = partAt s h hs t }
 
-unfoldable pub moveWork : Header → List ℕ → ℕ → Work
-moveWork x d b = record { calls = callsPart (x .h1) (x .h2 ∷ []) (x .step) b; count = countPart (x .h1) (x .h2 ∷ []) (x .step) b; body = movedPart d (x .h1) (x .h2 ∷ []) (x .step) b }
+unfoldable pub partWork : List ℕ → ℕ → List ℕ → ℕ → ℕ → Work
+partWork d h hs a b = record { calls = callsPart h hs a b; count = countPart h hs a b; body = movedPart d h hs a b }
+
+abbrev pub makeWork : Heights → List ℕ → Work
+makeWork ht s = newWork s (ht .top) (belowOf ht) 0
+
+abbrev pub moveWork : Header → List ℕ → ℕ → Work
+moveWork x d b = partWork d (x .heights .top) (belowOf (x .heights)) (x .step) b
 
 -- make: 1, 2, 4, 9
 pub record MakeOutcome : Type 0 where
@@ -52,25 +58,25 @@ pub record MakeOutcome : Type 0 where
 abbrev pub notMade : Refusal → List ℕ → List ℕ → MakeOutcome
 notMade why s d = record { calls = 0; answer = grown.Refused why; seed = s; table = d }
 
-abbrev pub made : ℕ → ℕ → Work → MakeOutcome
-made h1 h2 w = record { calls = w .calls; answer = grown.Done (w .count); seed = zeros; table = headerBytes (header h1 h2 0 0 0) ++ w .body }
+abbrev pub made : Heights → Work → MakeOutcome
+made ht w = record { calls = w .calls; answer = grown.Done (w .count); seed = zeros; table = headerBytes (header ht 0 0 0) ++ w .body }
 
-unfoldable pub makeOutcome : ℕ → ℕ → List ℕ → List ℕ → MakeOutcome
-makeOutcome h1 h2 s d =
-    pick (tooHigh h1 h2) (notMade Height s d)
+unfoldable pub makeOutcome : Heights → List ℕ → List ℕ → MakeOutcome
+makeOutcome ht s d =
+    pick (tooHigh ht) (notMade Height s d)
     (pick (eqb (length s) 32)
-    (pick (eqb (length d) (tableSize h1 h2)) (made h1 h2 (makeWork h1 h2 s)) (notMade Length s d))
+    (pick (eqb (length d) (tableSize ht)) (made ht (makeWork ht s)) (notMade Length s d))
     (notMade SeedOrKey s d))
 
 -- the same under a tally: that outcome where every module call it makes is answered, else number 9, and nothing is changed
-unfoldable pub makeTallied : ℕ → ℕ → List ℕ → List ℕ → ℕ → MakeOutcome
-makeTallied h1 h2 s d t = pick (asked (makeOutcome h1 h2 s d .calls) t .given) (makeOutcome h1 h2 s d) (notMade Unanswered s d)
+unfoldable pub makeTallied : Heights → List ℕ → List ℕ → ℕ → MakeOutcome
+makeTallied ht s d t = pick (asked (makeOutcome ht s d .calls) t .given) (makeOutcome ht s d) (notMade Unanswered s d)
 
-pub record Makes (h1 h2 : ℕ) (s d : List ℕ) (t : ℕ) (a : Grown) (s′ d′ : List ℕ) (t′ : ℕ) : Type 0 where
-  pub answers : a ≡ makeTallied h1 h2 s d t .answer
-  pub zeroes : s′ ≡ makeTallied h1 h2 s d t .seed
-  pub leaves : d′ ≡ makeTallied h1 h2 s d t .table
-  pub tallies : t′ ≡ asked (makeOutcome h1 h2 s d .calls) t .tally
+pub record Makes (ht : Heights) (s d : List ℕ) (t : ℕ) (a : Grown) (s′ d′ : List ℕ) (t′ : ℕ) : Type 0 where
+  pub answers : a ≡ makeTallied ht s d t .answer
+  pub zeroes : s′ ≡ makeTallied ht s d t .seed
+  pub leaves : d′ ≡ makeTallied ht s d t .table
+  pub tallies : t′ ≡ asked (makeOutcome ht s d .calls) t .tally
 
 -- read key: 3, 4
 pub record KeyOutcome : Type 0 where
@@ -82,7 +88,7 @@ abbrev pub notRead : Refusal → List ℕ → List ℕ → KeyOutcome
 notRead why d out = record { answer = answer.Refused why; table = d; out = out }
 
 abbrev pub keyRead : Header → List ℕ → KeyOutcome
-keyRead x d = record { answer = answer.Done; table = d; out = rootIn (bodyIn d) (x .h1) }
+keyRead x d = record { answer = answer.Done; table = d; out = rootIn (bodyIn d) (x .heights .top) }
 
 unfoldable pub keyUnder : Found → List ℕ → List ℕ → KeyOutcome
 keyUnder (found.Refused why) d out = notRead why d out
@@ -117,7 +123,7 @@ allows x b = leb b (x .first) && leb b (x .second)
 unfoldable pub moveUnder : MoveOutcome → Found → List ℕ → ℕ → MoveOutcome
 moveUnder early (found.Refused why) d b = notMoved why d
 moveUnder early (found.Good x) d b =
-    pick (leb (steps (x .h1) (x .h2)) b) (notMoved PastEnd d)
+    pick (leb (steps (x .heights)) b) (notMoved PastEnd d)
     (pick (leb b (x .step)) early
     (pick (allows x b) (moved x b (moveWork x (bodyIn d) b)) (notMoved NotReleased d)))
 
@@ -171,7 +177,7 @@ unfoldable pub releaseUnder : Found → List ℕ → ℕ → ℕ → ReleaseOutc
 releaseUnder (found.Refused why) d w n = refusedRelease why d
 releaseUnder (found.Good x) d w n =
     pick (ltb 1 w) (refusedRelease Window d)
-    (pick (ltb n (stoodFor x w) || ltb (steps (x .h1) (x .h2)) n) (refusedRelease Lowered d) (released d w n))
+    (pick (ltb n (stoodFor x w) || ltb (steps (x .heights)) n) (refusedRelease Lowered d) (released d w n))
 
 unfoldable pub releaseOutcome : List ℕ → ℕ → ℕ → ReleaseOutcome
 releaseOutcome d w n = releaseUnder (headerOf d) d w n
@@ -192,13 +198,13 @@ abbrev pub notSigned : Refusal → List ℕ → List ℕ → List ℕ → SignOu
 notSigned why d m out = record { calls = 0; answer = answer.Refused why; table = d; message = m; out = out }
 
 abbrev pub signed : Header → List ℕ → List ℕ → SignOutcome
-signed x d m = record { calls = 1; answer = answer.Done; table = d; message = m; out = partSignature (bodyIn d) (x .h1) (x .h2 ∷ []) (x .step) m }
+signed x d m = record { calls = 1; answer = answer.Done; table = d; message = m; out = partSignature (bodyIn d) (x .heights .top) (belowOf (x .heights)) (x .step) m }
 
 unfoldable pub signUnder : Found → List ℕ → List ℕ → List ℕ → SignOutcome
 signUnder (found.Refused why) d m out = notSigned why d m out
 signUnder (found.Good x) d m out =
     pick (ltb limit (length m)) (notSigned TooLong d m out)
-    (pick (eqb (length out) (signatureSize (x .h1) (x .h2))) (signed x d m) (notSigned Length d m out))
+    (pick (eqb (length out) (signatureSize (x .heights))) (signed x d m) (notSigned Length d m out))
 
 unfoldable pub signOutcome : List ℕ → List ℕ → List ℕ → SignOutcome
 signOutcome d m out = signUnder (headerOf d) d m out
@@ -224,22 +230,22 @@ pub record VerifyOutcome : Type 0 where
 abbrev pub verified : Verdict → List ℕ → List ℕ → List ℕ → VerifyOutcome
 verified a k m x = record { answer = a; key = k; message = m; signature = x }
 
-unfoldable pub verdictOf : ℕ → ℕ → List ℕ → ℕ → List ℕ → List ℕ → Verdict
-verdictOf h1 h2 k t m x =
-    pick (tooHigh h1 h2) (verdict.Refused Height)
+unfoldable pub verdictOf : Heights → List ℕ → ℕ → List ℕ → List ℕ → Verdict
+verdictOf ht k t m x =
+    pick (tooHigh ht) (verdict.Refused Height)
     (pick (eqb (length k) 32)
-    (pick (eqb (length x) (signatureSize h1 h2))
+    (pick (eqb (length x) (signatureSize ht))
     (pick (ltb limit (length m)) (verdict.Refused TooLong)
-    (pick (leb (steps h1 h2) t) (verdict.Refused PastEnd)
-    (pick (partVerdict k h1 (h2 ∷ []) t m x) verdict.Accepted verdict.Rejected)))
+    (pick (leb (steps ht) t) (verdict.Refused PastEnd)
+    (pick (partVerdict k (ht .top) (belowOf ht) t m x) verdict.Accepted verdict.Rejected)))
     (verdict.Refused Length))
     (verdict.Refused SeedOrKey))
 
-unfoldable pub verifyOutcome : ℕ → ℕ → List ℕ → ℕ → List ℕ → List ℕ → VerifyOutcome
-verifyOutcome h1 h2 k t m x = verified (verdictOf h1 h2 k t m x) k m x
+unfoldable pub verifyOutcome : Heights → List ℕ → ℕ → List ℕ → List ℕ → VerifyOutcome
+verifyOutcome ht k t m x = verified (verdictOf ht k t m x) k m x
 
-pub record Verifies (h1 h2 : ℕ) (k : List ℕ) (t : ℕ) (m x : List ℕ) (a : Verdict) (k′ m′ x′ : List ℕ) : Type 0 where
-  pub answers : a ≡ verifyOutcome h1 h2 k t m x .answer
-  pub keeps-key : k′ ≡ verifyOutcome h1 h2 k t m x .key
-  pub keeps-message : m′ ≡ verifyOutcome h1 h2 k t m x .message
-  pub keeps-signature : x′ ≡ verifyOutcome h1 h2 k t m x .signature
+pub record Verifies (ht : Heights) (k : List ℕ) (t : ℕ) (m x : List ℕ) (a : Verdict) (k′ m′ x′ : List ℕ) : Type 0 where
+  pub answers : a ≡ verifyOutcome ht k t m x .answer
+  pub keeps-key : k′ ≡ verifyOutcome ht k t m x .key
+  pub keeps-message : m′ ≡ verifyOutcome ht k t m x .message
+  pub keeps-signature : x′ ≡ verifyOutcome ht k t m x .signature

@@ -29,7 +29,7 @@ AskedTwice = (d : List ℕ) (b : ℕ) → (caughtUp (caughtUp d b) b ≡ caughtU
 -- a well-formed table answers 0 where it is asked for a step below T that is not later, or that both windows have released
 abbrev pub AnswersBelowT : Type 0
 AnswersBelowT =
-    (d : List ℕ) (b : ℕ) → wellFormed d ≡ true → b < steps (headerIn d .h1) (headerIn d .h2)
+    (d : List ℕ) (b : ℕ) → wellFormed d ≡ true → b < steps (headerIn d .heights)
     → (b ≤ headerIn d .step) ⊎ ((b ≤ headerIn d .first) × (b ≤ headerIn d .second)) → catchNumber d b ≡ 0
 
 -- a count of 0 says that the table stayed, since every move that is done counts at least 1

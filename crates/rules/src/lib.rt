@@ -1,10 +1,18 @@
-// What the rules of a key speak of: a table's header, and the answers of the calls. The definitions and their laws stand here, the code in crate `key`.
+// What the rules of a key speak of: its heights, a table's header, and the answers of the calls. The definitions and their laws stand here, the code in
+// crates `part` and `key`.
 use refusal::Refusal;
+
+// How many trees there are, and the height of each, from the top. Where there are fewer than three, the last heights say nothing.
+pub struct Heights {
+    pub trees: usize,
+    pub top: usize,
+    pub second: usize,
+    pub third: usize,
+}
 
 // The heights, the step, and for window 0 and 1 the first step that it still needs (request 8).
 pub struct Header {
-    pub h1: usize,
-    pub h2: usize,
+    pub heights: Heights,
     pub step: usize,
     pub first: usize,
     pub second: usize,

@@ -1,5 +1,5 @@
 /* Calls the library as requests on standard input ask (lent.h says how), and writes to standard output what it answered and left.
- * A request: op (1 byte), h1, h2, step, the tally, every, silent (8 bytes each), four lengths (4 each), four buffers; numbers lowest byte
+ * A request: op (1 byte), h1, h2, h3, step, the tally, every, silent (8 bytes each), four lengths (4 each), four buffers; numbers lowest byte
  * first. An answer: the answer (8), how often each Ed25519 call was made (3 times 4), the tally (8) and the four buffers as they were left. */
 #include <stdio.h>
 #include <stdlib.h>
@@ -41,6 +41,7 @@ static void read_request(int op)
     request.op = op;
     request.h1 = number(8);
     request.h2 = number(8);
+    request.h3 = number(8);
     request.step = number(8);
     request.tally = number(8);
     request.every = number(8);

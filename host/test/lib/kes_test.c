@@ -5,7 +5,7 @@
 
 #include "kes.h"
 
-enum { GUARD = 64, FILL = 0xa5, H1 = 1, H2 = 2, STEPS = 8, N = 3, MOST = 4097 };
+enum { GUARD = 64, FILL = 0xa5, H1 = 1, H2 = 2, STEPS = 8, N = 3, MOST = 4097, THREE = 816, SIGNED3 = 448 };
 
 /* A buffer with guard bytes on both sides. */
 struct guarded {
@@ -66,10 +66,14 @@ static uint64_t make(void)
 
 static void sizes(void)
 {
-    expect(kes_table_size(0, 0) == 272 && kes_table_size(2, 2) == 720 && kes_table_size(12, 12) == KES_TABLE_MAX, "the table's sizes");
-    expect(kes_signature_size(0, 0) == 224 && kes_signature_size(2, 2) == 352 && kes_signature_size(12, 12) == KES_SIGNATURE_MAX, "the signature's sizes");
+    expect(kes_table_size(0, 0) == 272 && kes_table_size(2, 2) == 720 && kes_table_size(12, 12) == 2960, "the table's sizes");
+    expect(kes_signature_size(0, 0) == 224 && kes_signature_size(2, 2) == 352 && kes_signature_size(12, 12) == 992, "the signature's sizes");
     expect(kes_steps(2, 2) == 16 && kes_steps(12, 12) == 16777216, "the steps");
     expect(kes_table_size(13, 0) == 0 && kes_signature_size(0, 13) == 0 && kes_steps(UINT64_MAX, 0) == 0, "0 above height 12");
+    expect(kes3_table_size(0, 0, 0) == 464 && kes3_table_size(1, 2, 3) == 1136 && kes3_table_size(8, 8, 8) == KES_TABLE_MAX, "the sizes of a table of three trees");
+    expect(kes3_signature_size(0, 0, 0) == 352 && kes3_signature_size(8, 8, 8) == KES_SIGNATURE_MAX, "the sizes of a signature of three trees");
+    expect(kes3_steps(1, 1, 1) == 8 && kes3_steps(8, 8, 8) == 16777216, "the steps of three trees");
+    expect(kes3_table_size(9, 0, 0) == 0 && kes3_table_size(0, 9, 0) == 0 && kes3_signature_size(0, 0, 9) == 0 && kes3_steps(0, UINT64_MAX, 0) == 0, "0 above height 8 of three");
     expect(kes_fair_cache_size(1) == 132 && kes_fair_cache_size(N) == 388 && kes_fair_cache_size(KES_FAIR_MAX) == KES_FAIR_CACHE_MAX, "the cache's sizes");
     expect(kes_fair_seeds_size(1) == 32 && kes_fair_seeds_size(KES_FAIR_MAX) == 8192, "the sizes of a fair's seeds");
     expect(kes_plain_table_size(0) == 96 && kes_plain_table_size(3) == 992 && kes_plain_table_size(8) == KES_PLAIN_TABLE_MAX, "the plain table's sizes");
@@ -81,6 +85,7 @@ static void sizes(void)
 static void signed_sizes(int height, long entries)
 {
     expect(KES_TABLE_SIZE(height, height) == 720 && KES_SIGNATURE_SIZE(height, 2L) == 352, "sizes of heights that are int or long");
+    expect(KES3_TABLE_SIZE(height, 0, height) == 912 && KES3_SIGNATURE_SIZE(0, 2L, height) == 480 && KES3_TABLE_SIZE(0, 0, height - 3) == 0 && KES3_SIGNATURE_SIZE(-1L, 0, 0) == 0, "the same of three trees");
     expect(KES_FAIR_CACHE_SIZE(entries) == 388 && KES_FAIR_SEEDS_SIZE((int)entries) == 96, "sizes of a fair whose entries are long or int");
     expect(KES_PLAIN_TABLE_SIZE(height) == 480 && KES_PLAIN_TABLE_SIZE(height - 3) == 0 && KES_PLAIN_TABLE_SIZE(-1L) == 0, "sizes of a plain tree whose height is int or long");
     expect(KES_TABLE_SIZE(-1L, 0) == 0 && KES_TABLE_SIZE(0, height - 3) == 0 && KES_TABLE_SIZE(entries - 4, 0) == 0, "no table below height 0");
@@ -214,6 +219,74 @@ static void verifying(void)
     expect(verify(0, KES_KEY_SIZE, 40, signed_size - 1) == KES_LENGTH, "a short signature is refused with 4");
     expect(verify(STEPS, KES_KEY_SIZE, KES_MESSAGE_MAX + 1, signed_size) == KES_TOO_LONG, "7 comes before 6");
     expect(kes_verify(13, 0, NULL, 0, 0, NULL, 0, NULL, 0) == KES_HEIGHT, "1 comes first");
+}
+
+/* A fresh key of heights 1, 1 and 1 in table, whose windows have released all. */
+static uint64_t make3(void)
+{
+    uint64_t made;
+    clear(&seed);
+    clear(&table);
+    memset(in(&seed), 7, KES_SEED_SIZE);
+    made = kes3_make(1, 1, 1, in(&seed), KES_SEED_SIZE, in(&table), THREE, &tally);
+    expect(kes_release(in(&table), THREE, 0, 8) == KES_DONE && kes_release(in(&table), THREE, 1, 8) == KES_DONE, "both windows release all of three trees");
+    return made;
+}
+
+static void making_three(void)
+{
+    uint64_t made = make3();
+    expect(made == (uint64_t)6 << 32 && zero(in(&seed), KES_SEED_SIZE), "a key of three trees is made, six key pairs are grown, and the seed is zero");
+    expect(guarded(&seed, KES_SEED_SIZE) && guarded(&table, THREE) && in(&table)[2] == 2 && in(&table)[3] == 1, "byte 2 says three, and byte 3 the third height");
+    memset(in(&seed), 7, KES_SEED_SIZE);
+    other = table;
+    expect(kes3_make(9, 0, 0, NULL, 0, NULL, 0, &tally) == KES_HEIGHT && kes3_make(0, 9, 0, NULL, 0, NULL, 0, &tally) == KES_HEIGHT, "height 9 of three is refused with 1");
+    expect(kes3_make(0, 0, 9, NULL, 0, NULL, 0, &tally) == KES_HEIGHT && kes3_make(0, 0, (uint64_t)1 << 32, NULL, 0, NULL, 0, &tally) == KES_HEIGHT, "in every place, and none wraps");
+    expect(kes3_make(1, 1, 1, in(&seed), 31, in(&table), THREE - 1, &tally) == KES_SEED_OR_KEY, "2 comes before 4");
+    expect(kes3_make(1, 1, 1, in(&seed), KES_SEED_SIZE, in(&table), THREE + 1, &tally) == KES_LENGTH, "a long table is refused with 4");
+    in(&table)[3] = 9;
+    expect(kes_read_key(in(&table), THREE, in(&key), KES_KEY_SIZE) == KES_TABLE, "a third height of 9 is refused with 3");
+    in(&table)[3] = 1, in(&table)[2] = 1;
+    expect(kes_read_key(in(&table), THREE, in(&key), KES_KEY_SIZE) == KES_TABLE, "of two trees byte 3 is zero");
+    in(&table)[2] = 2;
+    expect(memcmp(&other, &table, sizeof table) == 0 && in(&seed)[0] == 7, "a refused make changes nothing");
+}
+
+/* Step 4 of 8 is that of the next left leaf, so the middle tree and the right one are new. */
+static void moving_three(void)
+{
+    uint64_t before;
+    make3();
+    before = tally;
+    expect(kes_move(in(&table), THREE, 1, &tally) == (uint64_t)1 << 32 && tally == before + 1, "inside the right tree one key pair is grown");
+    expect(kes_move(in(&table), THREE, 2, &tally) == (uint64_t)3 << 32 && tally == before + 5, "the next middle step grows three, and a root is signed");
+    expect(kes_catch_up(in(&table), THREE, 3, &tally) == (uint64_t)1 << 32 && kes_move(in(&table), THREE, 4, &tally) == (uint64_t)5 << 32, "the next left step grows five");
+    expect(tally == before + 13 && guarded(&table, THREE), "and two roots are signed");
+    other = table;
+    expect(kes_move(in(&table), THREE, 8, &tally) == KES_PAST_END && kes_move(in(&table), THREE, 4, &tally) == KES_NOT_LATER, "6 and 5 as of two trees");
+    expect(memcmp(&other, &table, sizeof table) == 0, "a refused move changes nothing");
+}
+
+static uint32_t verify3(uint64_t step, size_t key_len, size_t len, size_t signed_len)
+{
+    return kes3_verify(1, 1, 1, in(&key), key_len, step, in(&message), len, in(&signature), signed_len);
+}
+
+static void verifying_three(void)
+{
+    moving_three();
+    clear(&key);
+    clear(&signature);
+    expect(kes_read_key(in(&table), THREE, in(&key), KES_KEY_SIZE) == KES_DONE && guarded(&key, KES_KEY_SIZE), "the key of three trees is read");
+    expect(kes_sign(in(&table), THREE, in(&message), 40, in(&signature), SIGNED3, &tally) == KES_DONE && guarded(&signature, SIGNED3), "three trees sign");
+    expect(kes_sign(in(&table), THREE, in(&message), 40, in(&signature), SIGNED3 - 1, &tally) == KES_LENGTH, "into 448 bytes");
+    expect(verify3(4, KES_KEY_SIZE, 40, SIGNED3) == KES_DONE, "the signature of three trees is accepted");
+    expect(verify3(0, KES_KEY_SIZE, 40, SIGNED3) == KES_NOT_ACCEPTED && verify3(4, KES_KEY_SIZE, 39, SIGNED3) == KES_NOT_ACCEPTED, "at another step or over another message it is not");
+    in(&signature)[SIGNED3 - 64] ^= 1;
+    expect(verify3(4, KES_KEY_SIZE, 40, SIGNED3) == KES_NOT_ACCEPTED, "with another root of the middle tree it is not");
+    expect(verify3(8, 31, 4097, SIGNED3 + 1) == KES_SEED_OR_KEY && verify3(8, 32, 4097, SIGNED3 + 1) == KES_LENGTH, "2, then 4");
+    expect(verify3(8, 32, 4097, SIGNED3) == KES_TOO_LONG && verify3(8, 32, 40, SIGNED3) == KES_PAST_END, "then 7, then 6");
+    expect(kes3_verify(0, 0, 9, NULL, 0, 0, NULL, 0, NULL, 0) == KES_HEIGHT, "1 comes first");
 }
 
 static void hashing(const char *abc)
@@ -428,6 +501,8 @@ int main(int argc, char **argv)
     catching_up();
     releasing();
     verifying();
+    making_three();
+    verifying_three();
     hashing(argv[1]);
     fair_making();
     fair_moving();

@@ -23,7 +23,7 @@ def tables():
 
 TABLES = tables()
 SECRETS = [table[-64:-32] for table in TABLES]  # the present leaf's
-PAST = [Past(SEED, H1, H2, step).names for step in range(STEPS)]
+PAST = [Past(SEED, (H1, H2), step).names for step in range(STEPS)]
 
 
 def signs_past(data, now):

@@ -163,7 +163,7 @@ static void take(const struct request *r, size_t i, enum edge edge, struct outco
 
 static int read_only(int op, size_t i)
 {
-    static const int lent_to_read[ALL_CALLS] = {[READ_KEY] = 1, [SIGN] = 3, [VERIFY] = 7, [HASH] = 1, [FAIR_SIGN] = 3, [FAIR_VERIFY] = 7,
+    static const int lent_to_read[ALL_CALLS] = {[READ_KEY] = 1, [SIGN] = 3, [VERIFY] = 7, [VERIFY3] = 7, [HASH] = 1, [FAIR_SIGN] = 3, [FAIR_VERIFY] = 7,
         [PLAIN_ROOT] = 1, [PLAIN_PATH] = 1, [PLAIN_SIGN] = 3, [CARD_FIND] = 1};
     return lent_to_read[op] >> i & 1;
 }
@@ -180,6 +180,8 @@ static uint64_t call(const struct request *r)
     case RELEASE: return kes_release(a, len[0], r->h1, r->step);
     case SIGN: return kes_sign(a, len[0], b, len[1], c, len[2], tally);
     case VERIFY: return kes_verify(r->h1, r->h2, a, len[0], r->step, b, len[1], c, len[2]);
+    case MAKE3: return kes3_make(r->h1, r->h2, r->h3, a, len[0], b, len[1], tally);
+    case VERIFY3: return kes3_verify(r->h1, r->h2, r->h3, a, len[0], r->step, b, len[1], c, len[2]);
     case HASH: return kes_hash(a, len[0], b, len[1]);
     case FAIR_MAKE: return kes_fair_make(r->h1, a, len[0], b, len[1], c, len[2], d, len[3], tally);
     case FAIR_MOVE: return kes_fair_move(a, len[0], r->step);

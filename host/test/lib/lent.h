@@ -12,7 +12,7 @@
 #include <stddef.h>
 #include <stdint.h>
 
-enum { MAKE, READ_KEY, MOVE, CATCH_UP, RELEASE, SIGN, VERIFY, HASH, FAIR_MAKE, FAIR_MOVE, FAIR_SIGN, FAIR_VERIFY, PLAIN_FILL, PLAIN_ROOT, PLAIN_PATH, PLAIN_SIGN, CALLS };
+enum { MAKE, READ_KEY, MOVE, CATCH_UP, RELEASE, SIGN, VERIFY, MAKE3, VERIFY3, HASH, FAIR_MAKE, FAIR_MOVE, FAIR_SIGN, FAIR_VERIFY, PLAIN_FILL, PLAIN_ROOT, PLAIN_PATH, PLAIN_SIGN, CALLS };
 /* the card index: held, card and cents are h1, h2 and step, and the first buffer is the table */
 enum { CARD_ENTER = CALLS, CARD_FIND, ALL_CALLS };
 /* whole pages, with room for the largest cache and more */
@@ -25,7 +25,7 @@ enum { LENT = 4, MOST = 36864 };
 
 struct request {
     int op;
-    uint64_t h1, h2, step; /* h1 is also a fair's N, a window, and a plain tree's height, step a plain tree's leaf */
+    uint64_t h1, h2, h3, step; /* h1 is also a fair's N, a window, and a plain tree's height, step a plain tree's leaf */
     uint64_t tally, every, silent; /* a number n is not answered where n % every is silent; every is 0 where all are */
     size_t len[LENT];
     uint8_t bytes[LENT][MOST];

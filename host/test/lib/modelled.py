@@ -9,10 +9,10 @@ import fair
 import kes
 import plain
 import sodium
-from .library import ANSWERED, CATCH_UP, FAIR_MAKE, FAIR_MOVE, FAIR_SIGN, FAIR_VERIFY, HASH, LENT, MAKE, MOVE, READ_KEY, RELEASE, SIGN, VERIFY
+from .library import ANSWERED, CATCH_UP, FAIR_MAKE, FAIR_MOVE, FAIR_SIGN, FAIR_VERIFY, HASH, LENT, MAKE, MAKE3, MOVE, READ_KEY, RELEASE, SIGN, VERIFY, VERIFY3
 from .library import PLAIN_FILL, PLAIN_PATH, PLAIN_ROOT, PLAIN_SIGN
 
-NAMES = ["make", "read key", "move", "catch up", "release", "sign", "verify", "hash", "fair make", "fair move", "fair sign", "fair verify"]
+NAMES = ["make", "read key", "move", "catch up", "release", "sign", "verify", "make of three", "verify of three", "hash", "fair make", "fair move", "fair sign", "fair verify"]
 NAMES += ["plain fill", "plain root", "plain path", "plain sign"]
 
 
@@ -42,7 +42,7 @@ class Model:
         self.module = Counted(ed)
         self.scheme, self.fair, self.plain = scheme(self.module), cache(self.module), engine(self.module)
 
-    def call(self, op, h1, h2, step, buffers, module=ANSWERED):
+    def call(self, op, h1, h2, step, buffers, module=ANSWERED, h3=0):
         left = [bytearray(x) for x in buffers]
         a, b, c, d = left + [bytearray()] * (LENT - len(left))
         self.module.begin(*module)
@@ -55,6 +55,8 @@ class Model:
             RELEASE: lambda: (s.release(a, h1, step), 0),
             SIGN: lambda: (s.sign(a, b, c), 0),
             VERIFY: lambda: (s.verify(h1, h2, a, step, b, c), 0),
+            MAKE3: lambda: s.make3(h1, h2, h3, a, b),
+            VERIFY3: lambda: (s.verify3(h1, h2, h3, a, step, b, c), 0),
             HASH: lambda: (kes.hash_call(a, b), 0),
             FAIR_MAKE: lambda: (f.make(h1, a, b, c, d), 0),
             FAIR_MOVE: lambda: (f.move(a, step), 0),
@@ -69,5 +71,5 @@ class Model:
 
 
 def show(request):
-    op, h1, h2, step, buffers, *module = request
-    return f"{NAMES[op]} h1={h1} h2={h2} step={step} module={module} " + " ".join(b.hex() or "-" for b in buffers)
+    op, h1, h2, step, buffers, *rest = request
+    return f"{NAMES[op]} h1={h1} h2={h2} step={step} module, h3={rest} " + " ".join(b.hex() or "-" for b in buffers)

@@ -1,6 +1,6 @@
 /* A host whose memory is searched from outside (trace.py): it answers requests and keeps nothing of them but its table or cache.
  * Requests come by read, answers go by write, since stdio would keep copies in buffers of its own.
- * A request: op, h1, h2, 0, step (4 bytes; a fair's N at its making), which asking of Ed25519 is not answered (4; the first is 1, and 0
+ * A request: op, h1, h2, h3 (which a key of two trees has not), step (4 bytes; a fair's N at its making), which asking of Ed25519 is not answered (4; the first is 1, and 0
  * says none), length (4), that many bytes, straight to where the call takes them from; a fair's master seed stands before its seeds.
  * An answer: 8 bytes; after signing, the signature too. Numbers are as the machine keeps them. */
 #include <stdlib.h>
@@ -8,10 +8,10 @@
 
 #include "kes.h"
 
-enum { MAKE, MOVE, SIGN, WIPE, FAIR_MAKE, FAIR_MOVE, FAIR_SIGN };
+enum { MAKE, MAKE3, MOVE, SIGN, WIPE, FAIR_MAKE, FAIR_MOVE, FAIR_SIGN };
 
 struct request {
-    uint8_t op, h1, h2, zero;
+    uint8_t op, h1, h2, h3;
     uint32_t step, silent, len;
 };
 
@@ -62,13 +62,15 @@ static void give(const void *from, size_t len)
 
 static uint64_t make(const struct request *r)
 {
-    uint64_t answer;
-    table_len = kes_table_size(r->h1, r->h2);
-    signature_len = kes_signature_size(r->h1, r->h2);
+    int two = r->op == MAKE;
+    uint64_t answer, end = two ? kes_steps(r->h1, r->h2) : kes3_steps(r->h1, r->h2, r->h3);
+    table_len = two ? kes_table_size(r->h1, r->h2) : kes3_table_size(r->h1, r->h2, r->h3);
+    signature_len = two ? kes_signature_size(r->h1, r->h2) : kes3_signature_size(r->h1, r->h2, r->h3);
     if (r->len != sizeof seed || !got(seed, sizeof seed))
         exit(1);
-    answer = kes_make(r->h1, r->h2, seed, sizeof seed, table, table_len, &tally);
-    if (kes_number(answer) == KES_DONE && (kes_release(table, table_len, 0, kes_steps(r->h1, r->h2)) != KES_DONE || kes_release(table, table_len, 1, kes_steps(r->h1, r->h2)) != KES_DONE))
+    answer = two ? kes_make(r->h1, r->h2, seed, sizeof seed, table, table_len, &tally)
+                 : kes3_make(r->h1, r->h2, r->h3, seed, sizeof seed, table, table_len, &tally);
+    if (kes_number(answer) == KES_DONE && (kes_release(table, table_len, 0, end) != KES_DONE || kes_release(table, table_len, 1, end) != KES_DONE))
         exit(1);
     return answer;
 }
@@ -94,7 +96,8 @@ static uint64_t fair_make(const struct request *r)
 static uint64_t answered(const struct request *r)
 {
     switch (r->op) {
-    case MAKE: return make(r);
+    case MAKE:
+    case MAKE3: return make(r);
     case MOVE: return kes_move(table, table_len, r->step, &tally);
     case FAIR_MAKE: return fair_make(r);
     case FAIR_MOVE: return kes_fair_move(cache, cache_len, r->step);

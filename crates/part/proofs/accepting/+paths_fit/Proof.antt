@@ -1,7 +1,7 @@
 use native.Mathlib.Omega.{arith}
 use borrow.Author.Needs.{needs}
 use mathlib.Core.Path.{refl}
-use Rattle.part.specs.Heights.{belowOf}
+use Rattle.rules.specs.Trees.{belowOf}
 use Rattle.rules.specs.Part.{total}
 use Rattle.rules.proofs.Steps.{wide-pos, inner-lt}
 use Rattle.fields.proofs.Laws.{length-part}

@@ -1,6 +1,6 @@
 use native.Mathlib.Omega.{arith}
 use borrow.Author.Needs.{needs}
-use Rattle.part.specs.Heights.{belowOf}
+use Rattle.rules.specs.Trees.{belowOf}
 use Rattle.rules.specs.Part.{total}
 use Rattle.rules.proofs.Steps.{wide-pos, inner-lt}
 use Rattle.part.proofs.Lists.{alone, step-last, step-more}

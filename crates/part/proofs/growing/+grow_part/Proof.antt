@@ -4,7 +4,7 @@ use mathlib.Core.Path.{sym, _∙_}
 use mathlib.Core.List.{_++_}
 use lib.ListN.{drop}
 use lib.Seq.{length-take-le, length-front}
-use Rattle.part.specs.Heights.{belowOf}
+use Rattle.rules.specs.Trees.{belowOf}
 use Rattle.rules.specs.Part.{total, callsNewPart}
 use Rattle.rules.proofs.Steps.{wide-pos, inner-lt}
 use Rattle.fields.proofs.Laws.{length-tail}

@@ -4,7 +4,7 @@ use mathlib.Core.Path.{refl, sym, ap, _∙_}
 use lib.ListN.{length, length-append}
 use lib.Seq.{length-take-le}
 use lib.Pow.{pow-pos}
-use Rattle.part.specs.Heights.{belowOf}
+use Rattle.rules.specs.Trees.{belowOf}
 use Rattle.rules.specs.Part.{total}
 use Rattle.tree.proofs.Growing.{heard}
 use Rattle.part.proofs.Copies.{copied, unmade, made}

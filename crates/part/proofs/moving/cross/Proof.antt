@@ -5,7 +5,7 @@ use Prim.Native.Nat.{_+_}
 use mathlib.Core.List.{_++_}
 use lib.ListN.{drop}
 use lib.Seq.{length-take-le, length-front}
-use Rattle.part.specs.Heights.{belowOf}
+use Rattle.rules.specs.Trees.{belowOf}
 use Rattle.rules.specs.Part.{callsNewPart}
 use Rattle.part.specs.Inside.{crossWork}
 use Rattle.fields.proofs.Laws.{length-tail}

@@ -5,7 +5,7 @@ use native.Mathlib.Omega.{arith}
 use lib.ListN.{length, take, length-append}
 use lib.Seq.{length-take-le}
 use borrow.Author.Needs.{needs}
-use Rattle.part.specs.Heights.{belowOf}
+use Rattle.rules.specs.Trees.{belowOf}
 use Rattle.part.specs.Inside.{crossWork, Works}
 use Rattle.part.proofs.Copies.{uncommitted, committed, copied, front-copy, same-work}
 use Rattle.part.proofs.moving.move_across.Statement.{statement}
