@@ -1,6 +1,6 @@
 #!/usr/bin/env python3
-"""Hostile journals, judged by build/journal and by the independent model, byte for byte. They reach the program in pieces.
-Both sides ask libsodium for Ed25519, so what is compared is this program. Needs desk/build before.
+"""Hostile journals, judged by build/journal, salvaged by build/salvage, and both by the independent models, byte for byte. They reach the programs in
+pieces. Both sides ask libsodium for Ed25519, so what is compared are these programs. Needs desk/build before.
     hostile_journals.py [--seed S] [--seconds N] [--case N] [--planted]"""
 import collections
 import contextlib
@@ -18,6 +18,7 @@ sys.dont_write_bytecode = True
 sys.path[:0] = [str(HOST / "test"), str(HOST / "model")]
 import corpus
 import kes
+import salvage
 from journal import LONGEST_LINE, Judge, message
 from journals import HEIGHTS, WORDS, Day
 from journals import drawn as damaged
@@ -25,7 +26,7 @@ from misread import MISREADINGS
 from mutate import spoiled
 from rounds import Different, NoAnswer, main
 
-PROGRAM = HOST.parent / "build" / "journal"
+BUILD = HOST.parent / "build"
 TIME_LIMIT = 20
 DAYS = [Day(random.Random(h1), h1, h2, 6, word, corpus.SCHEME) for h1, h2 in [*HEIGHTS, (6, 6), (8, 4)] for word in WORDS]
 NUMERALS = [b"", b"0", b"00", b"01", b"1", b"2", b"-1", b"+1", b" 1", b"1e3", b"12", b"13", b"2000000", b"2000001", b"4294967295", b"4294967296",
@@ -87,7 +88,7 @@ def pieces(draw, data):
 
 
 def on_alarm(*_):
-    raise NoAnswer(f"build/journal does not end within {TIME_LIMIT} s")
+    raise NoAnswer(f"a program does not end within {TIME_LIMIT} s")
 
 
 def feed(process, parts):
@@ -100,9 +101,15 @@ def feed(process, parts):
         pass
 
 
-def judged(parts):
-    """What the program writes; it writes to a file, so that it never waits for us."""
-    with tempfile.TemporaryFile() as out, subprocess.Popen([PROGRAM], stdin=subprocess.PIPE, stdout=out, bufsize=0) as process:
+def read_again(file):
+    file.seek(0)
+    return file.read()
+
+
+def wrote(program, parts):
+    """What the program writes to its two outputs; these are files, so that it never waits for us."""
+    with tempfile.TemporaryFile() as out, tempfile.TemporaryFile() as other, subprocess.Popen(
+            [BUILD / program], stdin=subprocess.PIPE, stdout=out, stderr=other, bufsize=0) as process:
         signal.alarm(TIME_LIMIT)
         try:
             feed(process, parts)
@@ -111,13 +118,12 @@ def judged(parts):
             signal.alarm(0)
             process.kill()
         if status != 0:
-            raise NoAnswer(f"build/journal ended with status {status}")
-        out.seek(0)
-        return out.read()
+            raise NoAnswer(f"build/{program} ended with status {status}")
+        return read_again(out), read_again(other)
 
 
 class Comparison:
-    """The program beside a model. A case is a journal and its pieces."""
+    """The programs beside their models. A case is a journal and its pieces."""
 
     def __init__(self, misreading=contextlib.nullcontext()):
         self.judge, self.show, self.misreading = Judge(corpus.SCHEME), repr, misreading
@@ -126,12 +132,14 @@ class Comparison:
         return pieces(draw, hostile(draw))
 
     def check(self, parts):
+        data = b"".join(parts)
         with self.misreading:
-            expected = self.judge.output(b"".join(parts))
-        wrote = judged(parts)
-        if wrote != expected:
-            raise Different(f"{parts!r}\nprogram {wrote!r}\nmodel   {expected!r}")
-        return collections.Counter(f"letter {letter.decode()}" for letter in re.findall(rb"^\d+\t([A-Z])$", expected, re.M))
+            expected = {"journal": (self.judge.output(data), b""), "salvage": salvage.outputs(self.judge, data)}
+        for program, outputs in expected.items():
+            found = wrote(program, parts)
+            if found != outputs:
+                raise Different(f"{parts!r}\n{program} {found!r}\nmodel   {outputs!r}")
+        return collections.Counter(f"letter {letter.decode()}" for letter in re.findall(rb"^\d+\t([A-Z])$", expected["journal"][0], re.M))
 
 
 if __name__ == "__main__":

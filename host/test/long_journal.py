@@ -1,6 +1,6 @@
 #!/usr/bin/env python3
-"""A journal of 100,000 good lines is judged right and added up, in memory that does not grow with it; and lines that are malformed, out of
-order or of another serial ask Ed25519 nothing, counted. long_journal.py [LINES]. Needs desk/build before."""
+"""A journal of 100,000 good lines is judged right, added up and, with every tenth line damaged, salvaged, in memory that does not grow with it; and lines
+that are malformed, out of order or of another serial ask Ed25519 nothing, counted. long_journal.py [LINES]. Needs desk/build before."""
 import pathlib
 import re
 import subprocess
@@ -75,6 +75,7 @@ def long_journal(library, lines, folder):
         sys.exit(f"long_journal: {peaks[0]} KiB at line {early}, {peaks[1]} KiB at line {last}")
     (folder / "journal").write_bytes(b"".join(data))
     added_up(desk, lines, folder)
+    salvaged(data, folder)
     print(f"long_journal: {lines} good lines, {size >> 20} MiB, {lines / took:.0f} lines a second, peak {peaks[0]} KiB then {peaks[1]} KiB")
 
 
@@ -96,6 +97,27 @@ def added_up(desk, lines, folder):
     if peaks[1] > peaks[0] + PAGES:
         sys.exit(f"long_journal: quarter holds {peaks[0]} KiB after one line, {peaks[1]} KiB after {lines}")
     print(f"long_journal: {lines} good lines added up, peak {peaks[0]} KiB after one line and {peaks[1]} KiB after all")
+
+
+def salvaged(data, folder):
+    """The same journal with every tenth line damaged through build/salvage, whose memory at the end is that after a hundredth."""
+    damaged = [line if n % 10 else b"#" + line[1:] for n, line in enumerate(data, 1)]
+    early, peaks = len(data) // 100, []
+    with open(folder / "saved", "wb") as saved, open(folder / "list", "wb") as listed:
+        process = subprocess.Popen([BUILD / "salvage"], stdin=subprocess.PIPE, stdout=saved, stderr=listed)
+        for part in damaged[:early], damaged[early:]:
+            process.stdin.write(b"".join(part))
+            process.stdin.flush()
+            peaks.append(peak(process))
+        process.stdin.close()
+        process.wait()
+    if (folder / "saved").read_bytes() != b"".join(line for n, line in enumerate(data, 1) if n % 10):
+        sys.exit("long_journal: other lines are saved")
+    if (folder / "list").read_bytes() != b"".join(b"%d\tM\n" % n for n in range(10, len(data) + 1, 10)):
+        sys.exit("long_journal: other lines are listed")
+    if peaks[1] > peaks[0] + PAGES:
+        sys.exit(f"long_journal: salvage holds {peaks[0]} KiB at line {early}, {peaks[1]} KiB at line {len(data)}")
+    print(f"long_journal: {len(data)} lines salvaged, peak {peaks[0]} KiB then {peaks[1]} KiB")
 
 
 def counting(folder):

@@ -24,6 +24,7 @@ BEYOND = {
     "one signature, one step": ["reuse/OneStep", "reuse/Singly"],
     "a header in full": ["headers/InFull"],
     "the quarter": ["accounts/Quarter"],
+    "salvage": ["saving/Salvage", "saving/Alone", "saving/Again", "salvaging/Turning"],
     "the running hash": ["blake2b/Running"],
 }
 # sealed: nobody who reads Ed25519.antt can see it

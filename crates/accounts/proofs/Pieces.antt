@@ -11,7 +11,7 @@ use Rattle.ledger.specs.Meeting.{Met, metIn}
 use Rattle.ledger.specs.Passing.{fresh, metAlong, metAfter, streamAfter, metAtEnd}
 use Rattle.ledger.specs.Inside.{InOrder, Ready, metBy, TakesBytes, Steps, Closes}
 use Rattle.ledger.proofs.Parts.{Along, along-none, along-step, met-step, along-whole, takes-then, met-next, after-size}
-use Rattle.ledger.proofs.Law.{keeps-fresh, law}
+use Rattle.ledger.proofs.Law.{law}
 use Rattle.ledger.specs.declared.Noted.{Noted}
 use Rattle.ledger.specs.declared.Stepped.{Stepped}
 use Rattle.ledger.specs.declared.Stream.{Stream}
@@ -65,11 +65,6 @@ counts-whole {s} {s′} {a} {a′} {line} {line′} {piece} {i} h c =
 pub piece-agrees : {s : Stream} {a : Account} {line piece line′ : List ℕ} {r : Counted} → InOrder s → Agrees s a → CountsPiece s a line piece r line′
     → Agrees (r .stream) (r .account)
 piece-agrees {s} {a} {line} {piece} {line′} {r} k u c = rw (c .counts, c .takes .goes) (after-agrees s a (take (s .size) line) piece k u)
-
--- nothing has been read
-pub begins : {s : Stream} {line : List ℕ} → s ≡ fresh Strict → length line ≡ 2048 → Ready s line
-unfolding fresh
-begins e h = rw e (record { keeps = keeps-fresh Strict; fits = omega arith; room = h })
 
 -- IN ANY CUTS: two pieces are one
 pub pieces-then : {s : Stream} {a : Account} {line line₁ line₂ x y : List ℕ} {r q : Counted} → length line ≡ 2048 → CountsPiece s a line x r line₁

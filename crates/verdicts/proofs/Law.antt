@@ -1,30 +1,23 @@
 -- THE LAW: however the input is cut into pieces, what a run of turns writes in all is the journal's output.
 use mathlib.Core.Path.{_≡_, refl, sym, ap, _∙_, subst}
-use mathlib.Core.List.{List, [], _∷_, _++_, append-assoc, append-nil}
+use mathlib.Core.List.{List, [], _++_, append-assoc, append-nil}
 use mathlib.Core.Bool.{Bool, true, false, _||_}
 use Prim.Native.Nat.{ℕ, _≤_}
 use native.Mathlib.Omega.{arith}
 use lib.Dec.{eqb}
 use lib.ListN.{length, take}
-use lib.Seq.{length-take-le}
-use Rattle.fields.specs.Tests.{pick}
-use Rattle.fields.proofs.Cases.{neither}
 use Rattle.text.specs.Digits.{Puts}
 use Rattle.text.proofs.Writing.{puts-then}
-use Rattle.lines.specs.Lines.{Line, endedIn, sinceLf, lastIn}
+use Rattle.lines.specs.Lines.{sinceLf}
 use Rattle.lines.proofs.First.{since-both}
-use Rattle.judging.specs.declared.Order.{Order}
 use Rattle.judging.specs.declared.Order.the-variants.{Strict}
-use Rattle.ledger.specs.Meeting.{Met, metIn}
-use Rattle.ledger.specs.Passing.{fresh, isOver, inPhase, metInPhase, onPhase, metOn, onLine, metAlong, onLines, metAfter, streamAfter, metMissing, onMissing, metAtEnd, streamAtEnd}
-use Rattle.ledger.specs.Inside.{Ready, TakesBytes}
-use Rattle.ledger.specs.declared.Phase.{Phase}
-use Rattle.ledger.specs.declared.Phase.the-variants.{First, Body, Past, Closed}
+use Rattle.ledger.specs.Passing.{fresh, isOver, metAfter, streamAfter, metAtEnd}
 use Rattle.ledger.specs.declared.Stream.{Stream}
-use Rattle.ledger.proofs.Law.{law, keeps-fresh}
+use Rattle.ledger.proofs.Law.{law}
 use Rattle.ledger.proofs.Parts.{met-then, stream-then, front-is}
+use Rattle.ledger.proofs.Ends.{fresh-front, front-size, quiet-end, over-after}
 use Rattle.verdicts.specs.Printing.{texts}
-use Rattle.verdicts.specs.Output.{totalOf, journalOutput}
+use Rattle.verdicts.specs.Output.{journalOutput}
 use Rattle.verdicts.specs.Feeding.{endOf, lastOf, TakesPiece}
 use Rattle.verdicts.specs.Turning.{endsAt, turnText, Turns, Runs, atEnd, stops, goesOn, allOf}
 use Rattle.verdicts.specs.declared.Turned.{Turned}
@@ -41,43 +34,9 @@ all-then s come x y =
     rw (met-then s come x y, texts-both, ← stream-then s come x y, since-both come x y, append-assoc)
 
 -- WHERE NOTHING THAT FOLLOWS COUNTS
-module _ (s : Stream) (l : Line) where
-  quiet-in : (p : Phase) → isOver p ≡ true → (metInPhase s p l ≡ []) × (onPhase s p l .phase ≡ p)
-  quiet-in First e = absurd (let z : _≡_ {A = ℕ} 0 1 = cc in omega arith)
-  quiet-in (Body b) e = absurd (let z : _≡_ {A = ℕ} 0 1 = cc in omega arith)
-  quiet-in (Past b) e = (refl, refl)
-  quiet-in Closed e = (refl, refl)
-
-  quiet-line : isOver (s .phase) ≡ true → (metOn s l ≡ []) × (onLine s l .phase ≡ s .phase)
-  unfolding metOn onLine
-  quiet-line e = quiet-in (s .phase) e
-
-quiet-lines : (s : Stream) (ls : List Line) → isOver (s .phase) ≡ true → (metAlong s ls ≡ []) × (onLines s ls .phase ≡ s .phase)
-unfolding metAlong onLines
-quiet-lines s [] e = (refl, refl)
-quiet-lines s (l ∷ ls) e =
-    let q = quiet-line s l e in
-    let r = quiet-lines (onLine s l) ls (ap isOver (q .1) ∙ e) in
-    (rw (q .0, r .0), r .1 ∙ q .1)
-
-quiet-missing : (p : Phase) → isOver p ≡ true → (metMissing p ≡ []) × (onMissing p ≡ p)
-quiet-missing First e = absurd (let z : _≡_ {A = ℕ} 0 1 = cc in omega arith)
-quiet-missing (Body b) e = absurd (let z : _≡_ {A = ℕ} 0 1 = cc in omega arith)
-quiet-missing (Past b) e = (refl, refl)
-quiet-missing Closed e = (refl, refl)
-
-quiet-end : (s : Stream) (come : List ℕ) → isOver (s .phase) ≡ true → (metAtEnd s come ≡ []) × (streamAtEnd s come .phase ≡ s .phase)
-unfolding metAtEnd streamAtEnd
-quiet-end s [] e = quiet-missing (s .phase) e
-quiet-end s (y ∷ ys) e = quiet-line s _ e
-
 over-last : (s : Stream) (come : List ℕ) → isOver (s .phase) ≡ true → lastOf s come ≡ endOf (s .phase)
 unfolding lastOf texts
 over-last s come e = let q = quiet-end s come e in rw (q .0, q .1)
-
-over-after : (s : Stream) (come x : List ℕ) → isOver (s .phase) ≡ true → (metAfter s come x ≡ []) × (streamAfter s come x .phase ≡ s .phase)
-unfolding metAfter streamAfter
-over-after s come x e = quiet-lines s (endedIn come x) e
 
 over-all : (s : Stream) (come x : List ℕ) → isOver (s .phase) ≡ true → allText s come x ≡ lastOf s come
 unfolding texts
@@ -86,7 +45,7 @@ over-all s come x e =
     rw (q .0) (over-last (streamAfter s come x) (sinceLf come x) (ap isOver (q .1) ∙ e) ∙ ap endOf (q .1) ∙ sym (over-last s come e))
 
 -- WHAT A TURN WRITES
-or-true : (a b : Bool) → b ≡ true → (a || b) ≡ true
+pub or-true : (a b : Bool) → b ≡ true → (a || b) ≡ true
 or-true true b e = refl
 or-true false b e = e
 
@@ -122,23 +81,12 @@ all-output x =
     let s = streamAfter (fresh Strict) [] x in
     sym (rw (total-is Strict x, law Strict x, texts-both) (append-assoc (texts (metAfter (fresh Strict) [] x)) (texts (metAtEnd s (sinceLf [] x))) _))
 
-fresh-front : (o : Order) (line : List ℕ) → take (fresh o .size) line ≡ []
-unfolding fresh
-fresh-front o line = refl
-
 pub run-law : (line : List ℕ) (pieces : List (List ℕ)) (written : List ℕ) → Runs (fresh Strict) line pieces written → written ≡ journalOutput (allOf pieces)
 run-law line pieces written r = run r ∙ rw (fresh-front Strict line) (all-output (allOf pieces))
-
-pub fresh-ready : (o : Order) {s : Stream} {line : List ℕ} → s ≡ fresh o → length line ≡ 2048 → Ready s line
-unfolding fresh
-fresh-ready o e l = rw e (record { keeps = tt; fits = omega arith; room = l })
 
 -- THE CALLS: what was fed, and then the end
 abbrev pub Finishes : Stream → List ℕ → ℕ → ℕ → List ℕ → Type 0
 Finishes s out at end out′ = (come : List ℕ) → length come ≡ s .size → Puts out at (lastOf s come) end out′
-
-front-size : {s s′ : Stream} {line x line′ : List ℕ} → TakesBytes s line x s′ line′ → s′ .size ≤ 2048 → length line′ ≡ 2048 → length (sinceLf (take (s .size) line) x) ≡ s′ .size
-front-size {s′ = s′} {line′ = line′} t h k = sym (ap length (front-is t)) ∙ length-take-le (s′ .size) line′ (omega arith)
 
 module _ {s : Stream} {line piece out : List ℕ} {at : ℕ} {r : Written} {line′ out₁ : List ℕ} (f : TakesPiece s line piece out at r line′ out₁) where
   pub puts-all : {end : ℕ} {out₂ : List ℕ} → at ≤ length out → r .stream .size ≤ 2048 → length line′ ≡ 2048 → Finishes (r .stream) out₁ (r .at) end out₂

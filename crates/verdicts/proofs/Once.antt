@@ -14,7 +14,7 @@ use Rattle.verdicts.specs.declared.Turned.{Turned}
 use Rattle.verdicts.specs.declared.Written.{Written}
 use Rattle.verdicts.proofs.Law.{Finishes}
 
-puts-once : {out : List ℕ} {at : ℕ} {text : List ℕ} {r q : ℕ} {x y : List ℕ} → Puts out at text r x → Puts out at text q y → (r ≡ q) × (x ≡ y)
+pub puts-once : {out : List ℕ} {at : ℕ} {text : List ℕ} {r q : ℕ} {x y : List ℕ} → Puts out at text r x → Puts out at text q y → (r ≡ q) × (x ≡ y)
 puts-once a b = (a .ends ∙ sym (b .ends), a .leaves ∙ sym (b .leaves))
 
 written-same : {r q : Written} → r .stream ≡ q .stream → r .at ≡ q .at → r ≡ q

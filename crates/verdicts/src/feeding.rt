@@ -16,7 +16,7 @@ use ledger::Phase;
 use ledger::Stream;
 
 // What an event is worth, whatever the bytes of its line.
-fn put_event(event: Event, out: &mut [u8], at: usize) -> usize
+pub fn put_event(event: Event, out: &mut [u8], at: usize) -> usize
     requires { ⌜ at + 23 ≤ length (now out) ⌝ }
     ensures { λ r. ⌜ ((l : List ℕ) → Puts (now (out .entry)) at (texts (metBy event l)) r (now (out .exit))) ⌝ }
 {

@@ -5,11 +5,13 @@ mod turning;
 
 pub use feeding::feed;
 pub use feeding::finish;
+pub use feeding::put_event;
 use ledger::Stream;
 pub use printing::letter;
 pub use printing::put_line;
 pub use printing::put_total;
 pub use printing::put_wrong;
+pub use turning::is_last;
 pub use turning::judge_all;
 pub use turning::turn;
 

@@ -13,7 +13,7 @@ use judging::Order;
 use ledger::Stream;
 
 // Whether the turn is the last: the input has ended, which a read of no bytes tells, or nothing that follows counts.
-fn is_last(got: usize, stream: Stream) -> bool
+pub fn is_last(got: usize, stream: Stream) -> bool
     ensures { λ r. ⌜ r ≡ endsAt got (stream .phase) ⌝ }
 {
     if got == 0 {

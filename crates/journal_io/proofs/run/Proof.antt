@@ -7,7 +7,7 @@ use Rattle.text.proofs.Writing.{puts-within}
 use Rattle.judging.specs.declared.Order.the-variants.{Strict}
 use Rattle.ledger.specs.Inside.{Ready}
 use Rattle.ledger.proofs.Parts.{ready-after}
-use Rattle.verdicts.proofs.Law.{fresh-ready}
+use Rattle.ledger.proofs.Ends.{fresh-ready}
 use Rattle.journal_io.proofs.run.Statement.{statement}
 use Rattle.journal_io.proofs.run.Tie as tie
 

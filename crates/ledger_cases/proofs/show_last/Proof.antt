@@ -12,7 +12,7 @@ use Rattle.ledger.specs.declared.Phase.the-variants.{Body}
 use Rattle.ledger.specs.declared.Stream.{Stream}
 use Rattle.ledger.proofs.Parts.{ready-after}
 use Rattle.verdicts.proofs.Texts.{after-length}
-use Rattle.verdicts.proofs.Law.{fresh-ready}
+use Rattle.ledger.proofs.Ends.{fresh-ready}
 use Rattle.ledger_cases.proofs.show_last.Statement.{statement}
 use Rattle.ledger_cases.proofs.show_last.Tie as tie
 

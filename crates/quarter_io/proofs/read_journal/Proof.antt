@@ -2,10 +2,12 @@ use mathlib.Core.Path.{_≡_, refl}
 use native.Mathlib.Omega.{arith}
 use borrow.Author.Needs.{needs}
 use lib.ListN.{length}
+use Rattle.judging.specs.declared.Order.the-variants.{Strict}
 use Rattle.ledger.specs.Inside.{Ready}
 use Rattle.ledger.proofs.Parts.{ready-after}
+use Rattle.ledger.proofs.Ends.{fresh-ready}
 use Rattle.accounts.specs.Inside.{Agrees}
-use Rattle.accounts.proofs.Pieces.{begins, piece-agrees, finished}
+use Rattle.accounts.proofs.Pieces.{piece-agrees, finished}
 use Rattle.quarter_io.proofs.read_journal.Statement.{statement}
 use Rattle.quarter_io.proofs.read_journal.Tie as tie
 
@@ -20,7 +22,7 @@ abbrev μ-loop : tie.MeasureT-loop
 μ-loop from line₀ piece₀ stream₀ account₀ reads₀ line piece stream account reads = reads
 
 loop-holds : tie.Need-loop-holds Inv-loop μ-loop
-loop-holds c = (begins (c .new .ensures) (c .before .before .before .pre), tt, refl, refl)
+loop-holds c = (fresh-ready Strict (c .new .ensures) (c .before .before .before .pre), tt, refl, refl)
 
 same-length : tie.Need-same-length Inv-loop μ-loop
 same-length c = c .before .before .before .before .before .before .loop .inv .2

@@ -4,8 +4,9 @@ use borrow.Author.Needs.{needs}
 use lib.ListN.{length, take}
 use Rattle.judging.specs.declared.Order.the-variants.{Strict}
 use Rattle.ledger.proofs.Parts.{ready-after}
+use Rattle.ledger.proofs.Ends.{fresh-ready}
 use Rattle.verdicts.proofs.Texts.{after-length}
-use Rattle.verdicts.proofs.Law.{fresh-ready, whole}
+use Rattle.verdicts.proofs.Law.{whole}
 use Rattle.verdicts.proofs.turning.judge_all.Statement.{statement}
 use Rattle.verdicts.proofs.turning.judge_all.Tie as tie
 
