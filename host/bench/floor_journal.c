@@ -1,4 +1,4 @@
-/* Makes again the Ed25519 calls that judging a journal takes, as make_journal wrote them to a file, from standard input: the judge's floor. */
+/* Makes again Ed25519 calls that judging a journal takes, as make_journal wrote them to a file, from standard input: a floor of the judge. */
 #include <stdio.h>
 
 #include <sodium.h>

@@ -1,4 +1,5 @@
-/* make_journal LINES FILE: writes a journal of good lines, of a key of heights 6 and 6, and to FILE the Ed25519 calls that judging it takes. */
+/* make_journal LINES TWO ONE: writes a journal of good lines, of a key of heights 6 and 6; to the file TWO the two Ed25519 calls that each line's verdict takes,
+ * and to ONE the second of them, by which the child's part is checked. */
 #include <stdio.h>
 #include <stdlib.h>
 
@@ -48,7 +49,7 @@ static size_t write_line(unsigned long serial, unsigned long step, char message[
 }
 
 /* The calls that the verdict on the line just written takes. */
-static void write_calls(const char *message, size_t len, unsigned long step, FILE *file)
+static void write_calls(const char *message, size_t len, unsigned long step, FILE *two, FILE *one)
 {
     const struct record *calls;
     size_t count;
@@ -56,11 +57,11 @@ static void write_calls(const char *message, size_t len, unsigned long step, FIL
     must(kes_verify(H1, H2, key, sizeof key, step, (const uint8_t *)message, len, signature, sizeof signature) == KES_DONE, "a line is not good");
     count = record_end(&calls);
     must(count == 2, "a verdict takes not two Ed25519 calls");
-    must(fwrite(calls, sizeof *calls, count, file) == count, "the calls cannot be written");
+    must(fwrite(calls, sizeof *calls, 2, two) == 2 && fwrite(calls + 1, sizeof *calls, 1, one) == 1, "the calls cannot be written");
 }
 
 /* The lines spread evenly over the key's steps. */
-static void write_lines(unsigned long lines, FILE *file)
+static void write_lines(unsigned long lines, FILE *two, FILE *one)
 {
     unsigned long serial, step = 0;
     char message[MESSAGE_MAX];
@@ -68,16 +69,16 @@ static void write_lines(unsigned long lines, FILE *file)
         unsigned long next = (serial - 1) * kes_steps(H1, H2) / lines;
         must(next == step || kes_number(kes_move(table, sizeof table, next, &tally)) == KES_DONE, "the key does not move");
         step = next;
-        write_calls(message, write_line(serial, step, message), step, file);
+        write_calls(message, write_line(serial, step, message), step, two, one);
     }
 }
 
 int main(int argc, char **argv)
 {
-    FILE *file = argc == 3 ? fopen(argv[2], "wb") : NULL;
-    must(file != NULL, "name the number of lines, and a file for the calls");
+    FILE *two = argc == 4 ? fopen(argv[2], "wb") : NULL, *one = argc == 4 ? fopen(argv[3], "wb") : NULL;
+    must(two != NULL && one != NULL, "name the number of lines, and two files for the calls");
     begin();
-    write_lines(strtoul(argv[1], NULL, 10), file);
-    must(fclose(file) == 0 && fflush(stdout) == 0, "not all could be written");
+    write_lines(strtoul(argv[1], NULL, 10), two, one);
+    must(fclose(two) == 0 && fclose(one) == 0 && fflush(stdout) == 0, "not all could be written");
     return 0;
 }

@@ -126,7 +126,7 @@ static int read_entry(const struct header *head, const char *line, size_t len, s
 }
 
 /* The letter of a line that was read, LF included. */
-static char judge(const struct header *head, struct books *last, const char *line, size_t len)
+static char judge(const struct header *head, struct books *last, struct plain_link *link, const char *line, size_t len)
 {
     struct entry e;
     if (len > LINE_MAX_SIZE || line[len - 1] != '\n' || !read_entry(head, line, len - 1, &e))
@@ -135,8 +135,7 @@ static char judge(const struct header *head, struct books *last, const char *lin
         return 'O';
     if (e.serial != last->serial + 1)
         return 'S';
-    if (plain_verify(head->h1, head->h2, head->key, sizeof head->key, e.step, e.message, e.message_len, e.signature,
-                     kes_signature_size(head->h1, head->h2)) != KES_DONE)
+    if (!plain_accepts(link, head->h1, head->h2, head->key, e.step, e.message, e.message_len, e.signature))
         return 'B';
     *last = (struct books){e.step, e.serial, last->count + 1, last->cents + e.amount};
     return 'G';
@@ -146,6 +145,7 @@ int main(void)
 {
     struct header head;
     struct books last = {0, 0, 0, 0};
+    struct plain_link link = {0};
     char *line = NULL;
     size_t room = 0;
     uint64_t n;
@@ -157,7 +157,7 @@ int main(void)
         return 0;
     }
     for (n = 2; n <= UINT32_MAX && (len = getline(&line, &room, stdin)) > 0; n++)
-        printf("%" PRIu64 "\t%c\n", n, judge(&head, &last, line, (size_t)len));
+        printf("%" PRIu64 "\t%c\n", n, judge(&head, &last, &link, line, (size_t)len));
     printf("total\t%" PRIu64 "\t%" PRIu64 "\n", last.count, last.cents);
     free(line);
     return 0;

@@ -417,3 +417,18 @@ uint32_t plain3_verify(uint64_t h1, uint64_t h2, uint64_t h3, const uint8_t *key
 {
     return judge(three(h1, h2, h3), key, key_len, step, message, message_len, signature, signature_len);
 }
+
+int plain_accepts(struct plain_link *link, uint64_t h1, uint64_t h2, const uint8_t *key, uint64_t step, const uint8_t *message, size_t message_len, const uint8_t *signature)
+{
+    const uint8_t *childs = signature + sum_size(h1), *root = childs + sum_size(h2);
+    uint64_t t1 = step >> h2;
+    if (link->held && link->t1 == t1 && memcmp(link->root, root, NODE) == 0 && memcmp(link->sum, signature, sum_size(h1)) == 0)
+        return path_fits(root, h2, step % ((size_t)1 << h2), childs) && leaf_accepts(message, message_len, childs);
+    if (plain_verify(h1, h2, key, KES_KEY_SIZE, step, message, message_len, signature, kes_signature_size(h1, h2)) != KES_DONE)
+        return 0;
+    link->held = 1;
+    link->t1 = t1;
+    memcpy(link->root, root, NODE);
+    memcpy(link->sum, signature, sum_size(h1));
+    return 1;
+}

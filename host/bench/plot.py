@@ -102,7 +102,8 @@ def main():
     source, target = sys.argv[1:]
     try:
         with open(source) as lines:
-            _, works = results.read(lines)
+            # a work that is held against more than it asks has no bar beyond its floor
+            works = [work for work in results.read(lines)[1] if work.aim >= 1]
     except FileNotFoundError:
         sys.exit(f"plot: there is no {source} yet: make bench makes it")
     with open(target, "w") as svg:

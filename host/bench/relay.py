@@ -1,6 +1,7 @@
 #!/usr/bin/env python3
-"""Races the judges of one journal of good lines, each as a process, start and reading included: build/journal, plain_journal, and
-floor_journal, which only makes the two Ed25519 verifications a line. relay.py FOLDER: where host/bench/build left these programs."""
+"""Races the judges of one journal of good lines, one for each step, each as a process, start and reading included: build/journal, plain_journal, which
+remembers the same link, and two floors: floor_journal, which only makes the two Ed25519 verifications a line that a verdict takes where nothing is
+remembered, and the same with the child's alone, one a line. relay.py FOLDER [ROUNDS]: where host/bench/build left these programs."""
 import os
 import pathlib
 import resource
@@ -8,7 +9,9 @@ import statistics
 import subprocess
 import sys
 
-LINES, ROUNDS, AIM = 2_000, 51, "1.10"
+LINES, ROUNDS = 4_096, 51
+# at most 1.1 times one verification a line; 1.8 times faster than two
+AIM_OF_ONE, AIM_OF_TWO = "1.10", f"{1 / 1.8:.4f}"
 ROOT = pathlib.Path(__file__).resolve().parents[2]
 
 
@@ -41,21 +44,26 @@ def ratio(times, others):
     return f"{statistics.median(a / b for a, b in zip(times, others)):.4f}"
 
 
-def main():
-    folder = pathlib.Path(sys.argv[1])
-    journal, calls = folder / "good.journal", folder / "good.calls"
-    with open(journal, "wb") as file:
-        subprocess.run([folder / "make_journal", str(LINES), calls], stdout=file, check=True)
-    racers = [(ROOT / "build" / "journal", journal), (folder / "plain_journal", journal), (folder / "floor_journal", calls)]
-    check(racers)
-    times = [[], [], []]
-    for turn in range(ROUNDS):
-        for racer in (turn, turn + 1, turn + 2):
-            times[racer % 3].append(seconds(*racers[racer % 3]))
-    print(f"# journal: {LINES} good lines at heights 6 and 6, whole processes; medians of {ROUNDS} rounds of processor time, interleaved; load {os.getloadavg()[0]:.1f}")
-    library, plain, floor = times
+def told(name, library, plain, floor, verifications, aim):
     ratios = ratio(library, floor), ratio(plain, floor), ratio(library, plain)
-    print("journal line (6,6)", *ratios, *(f"{statistics.median(t) / LINES * 1e9:.1f}" for t in times), 0, 0, 2, AIM, sep="\t")
+    print(name, *ratios, *(f"{statistics.median(t) / LINES * 1e9:.1f}" for t in (library, plain, floor)), 0, 0, verifications, aim, sep="\t")
+
+
+def main():
+    folder, rounds = pathlib.Path(sys.argv[1]), int(sys.argv[2]) if len(sys.argv) > 2 else ROUNDS
+    journal, two, one = folder / "good.journal", folder / "two.calls", folder / "one.calls"
+    with open(journal, "wb") as file:
+        subprocess.run([folder / "make_journal", str(LINES), two, one], stdout=file, check=True)
+    racers = [(ROOT / "build" / "journal", journal), (folder / "plain_journal", journal), (folder / "floor_journal", two), (folder / "floor_journal", one)]
+    check(racers)
+    times = [[] for _ in racers]
+    for turn in range(rounds):
+        for racer in range(turn, turn + len(racers)):
+            times[racer % len(racers)].append(seconds(*racers[racer % len(racers)]))
+    print(f"# journal: {LINES} good lines at heights 6 and 6, whole processes; medians of {rounds} rounds of processor time, interleaved; load {os.getloadavg()[0]:.1f}")
+    library, plain, of_two, of_one = times
+    told("journal line (6,6)", library, plain, of_one, 1, AIM_OF_ONE)
+    told("journal, of two", library, plain, of_two, 2, AIM_OF_TWO)
 
 
 main()

@@ -22,7 +22,7 @@ def main():
     for work in works:
         if work.name.startswith("journal"):
             library, plain, floor = (1e9 / ns for ns in (work.library, work.plain, work.floor))
-            print(f"\njournal lines a second: library {library:,.0f}, plain C {plain:,.0f}, floor {floor:,.0f}")
+            print(f"\njournal lines a second: library {library:,.0f}, plain C {plain:,.0f}, floor of {work.verifications:.0f} a line {floor:,.0f}")
 
 
 main()

@@ -15,6 +15,7 @@ sys.path.insert(0, str(ROOT / "host" / "model"))
 import ed25519
 import kes
 from journal import Judge, message
+from lib.counted import counting
 from lib.library import MAKE, MOVE, READ_KEY, RELEASE, SIGN, Library
 
 HEIGHTS = 6, 6
@@ -120,15 +121,6 @@ def salvaged(data, folder):
     print(f"long_journal: {len(data)} lines salvaged, peak {peaks[0]} KiB then {peaks[1]} KiB")
 
 
-def counting(folder):
-    """The program with a count of its Ed25519 calls."""
-    objects = folder / "counting.o", folder / "counted.o"
-    subprocess.run(["gcc", "-std=c99", "-O1", "-c", ROOT / "host" / "test" / "lib" / "counting.c", "-o", objects[0]], check=True)
-    subprocess.run(["ld", "-r", "--wrap=desk_ed25519_verify", BUILD / "obj" / "journal.o", objects[0], "-o", objects[1]], check=True)
-    subprocess.run([ROOT / "desk" / "link", objects[1], "sodium", folder / "counted"], check=True)
-    return folder / "counted"
-
-
 def judged_for_nothing(good):
     """Lines after a good one, well signed or nearly, that are M, O or S."""
     step, card, serial, amount, signature = good
@@ -151,8 +143,8 @@ def count_calls(library, folder):
     if run.stdout != Judge(kes.Scheme(kes.Module(ed25519))).output(data) or set(letters[2:-1]) != set(b"M O S".split()) or letters.count(b"G") != 3:
         sys.exit(f"long_journal: the counted journal is judged otherwise: {run.stdout}")
     if int(run.stderr) != 2 * 3:
-        sys.exit(f"long_journal: {int(run.stderr)} Ed25519 calls for 3 good lines and {len(idle)} lines that are M, O or S")
-    print(f"long_journal: 3 good lines asked Ed25519 six times, {len(idle)} lines that are M, O or S never")
+        sys.exit(f"long_journal: {int(run.stderr)} Ed25519 calls for 3 good lines of three children and {len(idle)} lines that are M, O or S")
+    print(f"long_journal: 3 good lines of three children asked Ed25519 six times, {len(idle)} lines that are M, O or S never")
 
 
 def main():

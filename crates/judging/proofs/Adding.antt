@@ -1,5 +1,8 @@
 -- A good line adds an amount that is in its range.
+use mathlib.Core.Path.{_≡_}
+use mathlib.Core.List.{List}
 use mathlib.Core.Bool.{Bool, true, false}
+use Prim.Native.Nat.{ℕ}
 use Rattle.text.specs.Columns.{columns}
 use Rattle.lines.specs.Lines.{Line, whole, long, unended}
 use Rattle.records.specs.declared.FirstLine.{FirstLine}
@@ -7,6 +10,7 @@ use Rattle.records.specs.declared.Record.{Record}
 use Rattle.records.specs.Records.{LaterLine, malformed, recorded, recordIn, InRange}
 use Rattle.records.proofs.Ranges.{Ranged, record-ranged}
 use Rattle.judging.specs.declared.Books.{Books}
+use Rattle.judging.specs.declared.Judged.{Judged}
 use Rattle.judging.specs.declared.Order.{Order}
 use Rattle.judging.specs.declared.Standing.{Standing}
 use Rattle.judging.specs.declared.Standing.the-variants.{Due, Below, Skips}
@@ -30,3 +34,6 @@ unfolding judged
 judged-adds o h b (whole l) = case-adds o h b (recordIn h (columns l)) (record-ranged h (columns l))
 judged-adds o h b (long l) = tt
 judged-adds o h b (unended l) = tt
+
+pub whole-adds : (o : Order) (h : FirstLine) (b : Books) (x : List ℕ) {j : Judged} → j ≡ caseOf o h b (recordIn h (columns x)) → Adds j
+whole-adds o h b x e = rw e (case-adds o h b (recordIn h (columns x)) (record-ranged h (columns x)))

@@ -2,7 +2,7 @@
 -- S serial not one more than the last good line's (the first is 1), B signature not accepted, G good; the first that applies, in this order".
 -- A reader that does not judge the order of steps and serials has M, B and G alone.
 use mathlib.Core.List.{List}
-use mathlib.Core.Bool.{Bool, true, false}
+use mathlib.Core.Bool.{Bool}
 use Prim.Native.Nat.{ℕ, _+_}
 use lib.Dec.{ltb, eqb}
 use Rattle.fields.specs.Tests.{pick}
@@ -10,8 +10,7 @@ use Rattle.text.specs.Columns.{columns}
 use Rattle.lines.specs.Lines.{Line, whole, long, unended}
 use Rattle.rules.specs.Trees.{two}
 use Rattle.rules.specs.Calls.{verifyOutcome}
-use Rattle.rules.specs.declared.Verdict.{Verdict}
-use Rattle.rules.specs.declared.Verdict.the-variants.{Accepted, Rejected, Refused}
+use Rattle.links.specs.Accepting.{isAccepted}
 use Rattle.records.specs.Records.{LaterLine, malformed, recorded, recordIn, message}
 use Rattle.records.specs.declared.FirstLine.{FirstLine}
 use Rattle.records.specs.declared.Record.{Record}
@@ -23,13 +22,7 @@ use Rattle.judging.specs.declared.Standing.the-variants.{Due, Below, Ski
 use Rattle.judging.specs.declared.Judged.{Judged}
 use Rattle.judging.specs.declared.Judged.the-variants.{Malformed, StepBelow, OtherSerial, NotAccepted, Good}
 
--- a verdict other than accepted is B
-abbrev pub isAccepted : Verdict → Bool
-isAccepted Accepted = true
-isAccepted Rejected = false
-isAccepted (Refused why) = false
-
--- a record's signature is accepted under the header
+-- a record's signature is accepted under the header; a verdict other than accepted is B
 unfoldable pub signatureGood : FirstLine → Record → List ℕ → Bool
 signatureGood h r signature = isAccepted (verifyOutcome (two (h .h1) (h .h2)) (h .key) (r .step) (message (h .edition) r) signature .answer)
 

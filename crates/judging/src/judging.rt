@@ -6,13 +6,16 @@ ghost use Rattle.rules.specs.Trees.{two};
 ghost use Rattle.rules.specs.Table.{signatureSize};
 ghost use Rattle.records.specs.Inside.{LowHeights};
 ghost use Rattle.records.specs.Records.{recordIn, InRange};
-ghost use Rattle.judging.specs.Judging.{signatureGood, standing, caseAs, caseOf, nextLine, added, booksAfter};
-ghost use Rattle.judging.specs.Inside.{Sound, Adds};
+ghost use Rattle.judging.specs.Judging.{signatureGood, standing, caseAs, nextLine, added, booksAfter};
+ghost use Rattle.judging.specs.Linking.{linkAs, ownLink};
+ghost use Rattle.judging.specs.Inside.{Sound, Adds, Held, Judges};
 use crate::Books;
 use crate::Judged;
 use crate::Order;
 use crate::Standing;
+use crate::Weighed;
 use crate::signing::is_accepted;
+use links::Link;
 use records::Entry;
 use records::FirstLine;
 use records::Record;
@@ -50,46 +53,60 @@ fn stand(order: Order, books: Books, r: Record) -> Standing
 }
 
 // A record and its signature, whatever the order.
-fn weigh(header: FirstLine, r: Record, signature: &[u8]) -> Judged
-    ensures { λ judged. ⌜ judged ≡ caseAs Standing.Due (signatureGood header r (now (signature .entry))) r ⌝ }
+fn weigh(header: FirstLine, link: Link, r: Record, signature: &[u8]) -> Weighed
+    requires { ⌜ LowHeights header × Held header link × (length (now signature) ≡ signatureSize (two (header .h1) (header .h2))) ⌝ }
+    ensures { λ found. ⌜ found .judged ≡ caseAs Standing.Due (signatureGood header r (now (signature .entry))) r ⌝ }
+    ensures { λ found. ⌜ found .link
+        ≡ linkAs Standing.Due (signatureGood header r (now (signature .entry))) link (ownLink header link r (now (signature .entry))) ⌝ }
 {
-    let good = is_accepted(header, r, signature);
-    if good {
-        return Judged::Good(r);
+    let checked = is_accepted(header, link, r, signature);
+    let link = checked.link;
+    if checked.good {
+        let judged = Judged::Good(r);
+        return Weighed { judged, link };
     }
-    Judged::NotAccepted(r)
+    let judged = Judged::NotAccepted(r);
+    Weighed { judged, link }
 }
 
 fn judge_in(
     order: Order,
     header: FirstLine,
     books: Books,
+    link: Link,
     line: &[u8],
     signature: &mut [u8],
-) -> Judged
-    requires { ⌜ LowHeights header × Sound books × (length (now signature) ≡ signatureSize (two (header .h1) (header .h2))) ⌝ }
-    ensures { λ r. ⌜ r ≡ caseOf order header books (recordIn header (columns (now (line .entry)))) ⌝ }
+) -> Weighed
+    requires { ⌜ LowHeights header × Sound books × Held header link × (length (now signature) ≡ signatureSize (two (header .h1) (header .h2))) ⌝ }
+    ensures { λ r. ⌜ Judges order header books link (recordIn header (columns (now (line .entry)))) r ⌝ }
 {
     let entry = read_record(header, line, signature);
     let Entry::WellFormed(r) = entry else {
-        return Judged::Malformed;
+        let judged = Judged::Malformed;
+        return Weighed { judged, link };
     };
     match stand(order, books, r) {
-        Standing::Below => Judged::StepBelow(r),
-        Standing::Skips => Judged::OtherSerial(r),
-        Standing::Due => weigh(header, r, signature),
+        Standing::Below => {
+            let judged = Judged::StepBelow(r);
+            Weighed { judged, link }
+        }
+        Standing::Skips => {
+            let judged = Judged::OtherSerial(r);
+            Weighed { judged, link }
+        }
+        Standing::Due => weigh(header, link, r, signature),
     }
 }
 
-// The case of a line below this header, after lines that left these books.
-pub fn judge(order: Order, header: FirstLine, books: Books, line: &[u8]) -> Judged
-    requires { ⌜ LowHeights header × Sound books ⌝ }
-    ensures { λ r. ⌜ r ≡ caseOf order header books (recordIn header (columns (now (line .entry)))) ⌝ }
+// The case of a line below this header, after lines that left these books and this link; and the link that it leaves.
+pub fn judge(order: Order, header: FirstLine, books: Books, link: Link, line: &[u8]) -> Weighed
+    requires { ⌜ LowHeights header × Sound books × Held header link ⌝ }
+    ensures { λ r. ⌜ Judges order header books link (recordIn header (columns (now (line .entry)))) r ⌝ }
     ensures { λ _. ⌜ now (line .exit) ≡ now (line .entry) ⌝ }
 {
     let mut room = signature_room();
     let n = key::layout::signature_size(header.h1, header.h2);
-    judge_in(order, header, books, line, &mut room[0..n])
+    judge_in(order, header, books, link, line, &mut room[0..n])
 }
 
 fn pass(books: Books) -> Books

@@ -4,6 +4,7 @@ mod signing;
 
 pub use judging::books_after;
 pub use judging::judge;
+use links::Link;
 use records::Record;
 pub use signing::is_accepted;
 pub use signing::put_message;
@@ -28,6 +29,12 @@ pub enum Judged {
     OtherSerial(Record),
     NotAccepted(Record),
     Good(Record),
+}
+
+// A judged line, and the link that is held after it.
+pub struct Weighed {
+    pub judged: Judged,
+    pub link: Link,
 }
 
 // What the lines before leave: the next line's number, the last good step and serial, the count and sum of good lines.

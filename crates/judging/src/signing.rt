@@ -2,10 +2,17 @@
 ghost use mathlib.Core.Path.{_≡_};
 ghost use Prim.Native.Nat.{_+_, _≤_};
 ghost use lib.ListN.{length};
+ghost use Rattle.fields.specs.Tests.{pick};
 ghost use Rattle.text.specs.Digits.{Puts};
+ghost use Rattle.rules.specs.Trees.{two};
+ghost use Rattle.rules.specs.Table.{signatureSize};
+ghost use Rattle.records.specs.Inside.{LowHeights};
 ghost use Rattle.records.specs.Records.{gap, message};
 ghost use Rattle.judging.specs.Judging.{signatureGood};
-use key::Verdict;
+ghost use Rattle.judging.specs.Linking.{ownLink};
+ghost use Rattle.judging.specs.Inside.{Held};
+use links::Checked;
+use links::Link;
 use records::Edition;
 use records::FirstLine;
 use records::Record;
@@ -40,18 +47,19 @@ fn message_room() -> [u8; 58]
     [0; 58]
 }
 
-// Whether the record's signature is accepted under the header.
-pub fn is_accepted(header: FirstLine, r: Record, signature: &[u8]) -> bool
-    ensures { λ yes. ⌜ yes ≡ signatureGood header r (now (signature .entry)) ⌝ }
+// Whether the record's signature is accepted under the header, by the link that is held; and the link held after it.
+pub fn is_accepted(header: FirstLine, link: Link, r: Record, signature: &[u8]) -> Checked
+    requires { ⌜ LowHeights header × Held header link × (length (now signature) ≡ signatureSize (two (header .h1) (header .h2))) ⌝ }
+    ensures { λ found. ⌜ found .good ≡ signatureGood header r (now (signature .entry)) ⌝ }
+    ensures { λ found. ⌜ found .link ≡ pick (found .good) (ownLink header link r (now (signature .entry))) link ⌝ }
     ensures { λ _. ⌜ now (signature .exit) ≡ now (signature .entry) ⌝ }
 {
     let mut room = message_room();
     let edition = header.edition;
     let n = put_message(edition, r, &mut room);
     let key = header.key;
-    match key::verify(header.h1, header.h2, &key, r.step, &room[0..n], signature) {
-        Verdict::Accepted => true,
-        Verdict::Rejected => false,
-        Verdict::Refused(_) => false,
-    }
+    let h1 = header.h1 as usize;
+    let h2 = header.h2 as usize;
+    let step = r.step as usize;
+    links::verify(link, h1, h2, &key, step, &room[0..n], signature)
 }

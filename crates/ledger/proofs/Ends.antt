@@ -6,6 +6,7 @@ use Prim.Native.Nat.{ℕ, _≤_}
 use native.Mathlib.Omega.{arith}
 use lib.ListN.{length, take}
 use lib.Seq.{length-take-le}
+use Rattle.links.proofs.Knowing.{vouched-none}
 use Rattle.lines.specs.Lines.{Line, endedIn, sinceLf}
 use Rattle.judging.specs.declared.Order.{Order}
 use Rattle.ledger.specs.Passing.{fresh, isOver, metInPhase, onPhase, metOn, onLine, metAlong, onLines, metAfter, streamAfter, metMissing, onMissing, metAtEnd, streamAtEnd}
@@ -23,7 +24,7 @@ fresh-front o line = refl
 
 pub fresh-ready : (o : Order) {s : Stream} {line : List ℕ} → s ≡ fresh o → length line ≡ 2048 → Ready s line
 unfolding fresh
-fresh-ready o e l = rw e (record { keeps = keeps-fresh o; fits = omega arith; room = l })
+fresh-ready o e l = rw e (record { keeps = keeps-fresh o; held = vouched-none _ _; fits = omega arith; room = l })
 
 -- so much of the present line has come
 pub front-size : {s s′ : Stream} {line x line′ : List ℕ} → TakesBytes s line x s′ line′ → s′ .size ≤ 2048 → length line′ ≡ 2048 → length (sinceLf (take (s .size) line) x) ≡ s′ .size

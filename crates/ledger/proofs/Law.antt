@@ -14,8 +14,8 @@ use Rattle.judging.specs.Judging.{judged, openBooks, booksAfter}
 use Rattle.judging.specs.declared.Books.{Books}
 use Rattle.judging.specs.declared.Order.{Order}
 use Rattle.ledger.specs.Meeting.{Met, headBy, headOf, metLater, metUnder, metOf, metInBy, metIn}
-use Rattle.ledger.specs.Passing.{fresh, inPhase, bodyAt, metHead, onHead, metInPhase, onPhase, metOn, onLine, metAlong, onLines, metAfter, streamAfter, holding, metMissing, metLast, metAtEnd}
-use Rattle.ledger.specs.Inside.{Keeps, InOrder}
+use Rattle.ledger.specs.Passing.{fresh, bodyAt, metHead, onHead, metInPhase, onPhase, metOn, onLine, metAlong, onLines, metAfter, streamAfter, holding, metMissing, metLast, metAtEnd}
+use Rattle.ledger.specs.Inside.{Keeps, InOrder, Ready}
 use Rattle.ledger.specs.declared.Phase.{Phase}
 use Rattle.ledger.specs.declared.Phase.the-variants.{First, Body, Past, Closed}
 use Rattle.ledger.specs.declared.Stream.{Stream}
@@ -64,7 +64,7 @@ later-one s b h l ls =
     let j = judged (s .order) (s .header) b l in
     let e : lastLine + 1 - b .number ≡ suc (lastLine - b .number) = omega (arith, last-line) in
     let n : lastLine - b .number ≡ lastLine + 1 - booksAfter b j .number = omega (arith, after-number b j) in
-    rw (e, n, still-books (inPhase s (bodyAt (booksAfter b j))) (booksAfter b j) ls)
+    rw (e, n, still-books (onPhase s (Body b) l) (booksAfter b j) ls)
 
 still-in : (s : Stream) (p : Phase) → Keeps (s .header) p → (l : Line) (ls : List Line) → toMeet s p (l ∷ ls) ≡ metInPhase s p l ++ Still (onPhase s p l) ls
 unfolding toMeet metOf

@@ -11,6 +11,7 @@ use Rattle.lines.specs.Inside.{lineNext, bufferAfter}
 use Rattle.lines.proofs.First.{ended-both, since-both, since-short}
 use Rattle.lines.proofs.Law.{buffer-both, buffer-front, buffer-none, next-within}
 use Rattle.records.specs.FirstLine.{Head, rightHead, wrongHead}
+use Rattle.judging.specs.Inside.{Held}
 use Rattle.ledger.specs.Meeting.{Met, headOf}
 use Rattle.ledger.specs.Passing.{holding, onHead, metInPhase, onPhase, metOn, onLine, metAlong, onLines, metAfter, streamAfter}
 use Rattle.ledger.specs.Inside.{InOrder, Ready, metBy, TakesBytes, Steps}
@@ -18,7 +19,7 @@ use Rattle.ledger.specs.declared.Phase.{Phase}
 use Rattle.ledger.specs.declared.Phase.the-variants.{First, Body, Past, Closed}
 use Rattle.ledger.specs.declared.Stepped.{Stepped}
 use Rattle.ledger.specs.declared.Stream.{Stream}
-use Rattle.ledger.proofs.Phases.{keeps-lines}
+use Rattle.ledger.proofs.Phases.{keeps-lines, held-lines}
 
 -- how much of the present line is kept does not matter to the lines
 module _ (s : Stream) (n : ℕ) where
@@ -120,9 +121,14 @@ pub keeps-after : (s : Stream) (come x : List ℕ) → InOrder s → InOrder (st
 unfolding streamAfter
 keeps-after s come x k = keeps-lines s (endedIn come x) k
 
+held-after-bytes : (s : Stream) (come x : List ℕ) → Held (s .header) (s .link) → Held (streamAfter s come x .header) (streamAfter s come x .link)
+unfolding streamAfter
+held-after-bytes s come x k = held-lines s (endedIn come x) k
+
 pub ready-after : {s s′ : Stream} {line x line′ : List ℕ} → Ready s line → TakesBytes s line x s′ line′ → length line′ ≡ 2048 → Ready s′ line′
 ready-after {s} {s′} {line} {x} r t h = record {
   keeps = subst InOrder (sym (t .goes)) (keeps-after s (take (s .size) line) x (r .keeps));
+  held = rw (t .goes) (held-after-bytes s (take (s .size) line) x (r .held));
   fits = rw (t .goes, after-size s (take (s .size) line) x) (since-short (take (s .size) line) x (few (s .size) line (r .room)));
   room = h;
 }

@@ -1,4 +1,4 @@
--- One line taken in each phase: that it was, and that the stream's numbers still cannot run over.
+-- One line taken in each phase: that it was, that the stream's numbers still cannot run over, and that its link was accepted.
 use mathlib.Core.Path.{_≡_, refl, sym, ap, _∙_, subst}
 use mathlib.Core.Logic.{⊎-elim}
 use mathlib.Core.List.{List, [], _∷_}
@@ -13,14 +13,18 @@ use Rattle.records.specs.FirstLine.{Head, rightHead, wrongHead}
 use Rattle.records.specs.Inside.{LowHeights}
 use Rattle.records.proofs.Ranges.{head-low}
 use Rattle.records.specs.declared.FirstLine.{FirstLine}
+use Rattle.links.specs.declared.Link.{Link}
+use Rattle.links.proofs.Knowing.{vouched-none}
 use Rattle.judging.specs.Judging.{judged, openBooks, nextLine, booksAfter}
-use Rattle.judging.specs.Inside.{Sound, Adds}
+use Rattle.judging.specs.Linking.{linkAfter}
+use Rattle.judging.specs.Inside.{Sound, Adds, Held}
 use Rattle.judging.proofs.Adding.{judged-adds}
+use Rattle.judging.proofs.Holding.{held-after}
 use Rattle.judging.specs.declared.Books.{Books}
 use Rattle.judging.specs.declared.Judged.{Judged}
 use Rattle.judging.specs.declared.Judged.the-variants.{Malformed, StepBelow, OtherSerial, NotAccepted, Good}
 use Rattle.ledger.specs.Meeting.{headBy, headOf}
-use Rattle.ledger.specs.Passing.{inPhase, bodyAt, metHead, onHead, metInPhase, onPhase, metOn, onLine, onLines}
+use Rattle.ledger.specs.Passing.{inPhase, withLink, bodyAt, metHead, onHead, metInPhase, onPhase, metOn, onLine, onLines}
 use Rattle.ledger.specs.Inside.{Keeps, InOrder, metBy, TakesLine}
 use Rattle.ledger.specs.declared.Event.{Event}
 use Rattle.ledger.specs.declared.Event.the-variants.{NoLine, Begun, Headless, Numbered}
@@ -41,10 +45,11 @@ module _ {s : Stream} {l : Line} {r : Noted} where
   pub takes-right : {k : FirstLine} → s .phase ≡ First → headOf l ≡ rightHead k → r .stream ≡ onHead s (rightHead k) → r .event ≡ Begun → TakesLine s l r
   takes-right e h g t = takes-in First e (g ∙ ap (onHead s) (sym h)) (ap (λ (v : Event). metBy v (bytesIn l)) t ∙ ap (λ (x : Head). metHead x (bytesIn l)) (sym h))
 
-  pub takes-later : {b : Books} {j : Judged} → s .phase ≡ Body b → j ≡ judged (s .order) (s .header) b l → r .stream ≡ inPhase s (bodyAt (booksAfter b j))
-      → r .event ≡ Numbered (b .number) j → TakesLine s l r
-  takes-later {b} {j} e h g t =
-      takes-in (Body b) e (g ∙ ap (λ (x : Judged). inPhase s (bodyAt (booksAfter b x))) h)
+  pub takes-later : {b : Books} {j : Judged} {k : Link} → s .phase ≡ Body b → j ≡ judged (s .order) (s .header) b l → k ≡ linkAfter (s .order) (s .header) b (s .link) l
+      → r .stream ≡ inPhase (withLink s k) (bodyAt (booksAfter b j)) → r .event ≡ Numbered (b .number) j → TakesLine s l r
+  takes-later {b} {j} {k} e h hk g t =
+      takes-in (Body b) e (g ∙ ap (λ (x : Judged). inPhase (withLink s k) (bodyAt (booksAfter b x))) h
+      ∙ ap (λ (x : Link). inPhase (withLink s x) (bodyAt (booksAfter b (judged (s .order) (s .header) b l)))) hk)
       (ap (λ (v : Event). metBy v (bytesIn l)) t ∙ ap (λ (x : Judged). metBy (Numbered (b .number) x) (bytesIn l)) h)
 
   pub takes-past : {b : Books} → s .phase ≡ Past b → r .stream ≡ inPhase s (s .phase) → r .event ≡ NoLine → TakesLine s l r
@@ -114,3 +119,22 @@ pub keeps-lines : (s : Stream) (ls : List Line) → InOrder s → InOrder (onLin
 unfolding onLines
 keeps-lines s [] k = k
 keeps-lines s (l ∷ ls) k = keeps-lines (onLine s l) ls (keeps-line s l k)
+
+-- THE LINK THAT IS HELD was accepted under the header
+abbrev HeldBy : Stream → Type 0
+HeldBy s = Held (s .header) (s .link)
+
+held-head : (s : Stream) (x : Head) → HeldBy s → HeldBy (onHead s x)
+held-head s wrongHead k = k
+held-head s (rightHead h) k = vouched-none (h .key) (h .h1)
+
+held-in : (s : Stream) (p : Phase) (l : Line) → HeldBy s → HeldBy (onPhase s p l)
+held-in s First l k = held-head s (headOf l) k
+held-in s (Body b) l k = held-after (s .order) (s .header) b (s .link) k l
+held-in s (Past b) l k = k
+held-in s Closed l k = k
+
+pub held-lines : (s : Stream) (ls : List Line) → HeldBy s → HeldBy (onLines s ls)
+unfolding onLines onLine
+held-lines s [] k = k
+held-lines s (l ∷ ls) k = held-lines (onLine s l) ls (held-in s (s .phase) l k)

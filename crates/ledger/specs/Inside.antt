@@ -10,7 +10,7 @@ use Rattle.lines.specs.Lines.{Line, bytesIn, kept}
 use Rattle.lines.specs.Inside.{inPiece, lineNext, bufferAfter}
 use Rattle.records.specs.Inside.{LowHeights}
 use Rattle.records.specs.declared.FirstLine.{FirstLine}
-use Rattle.judging.specs.Inside.{Sound}
+use Rattle.judging.specs.Inside.{Sound, Held}
 use Rattle.ledger.specs.Meeting.{Met, begun, headless, numbered}
 use Rattle.ledger.specs.Passing.{metOn, onLine, metAfter, streamAfter, metAtEnd, streamAtEnd}
 use Rattle.ledger.specs.declared.Event.{Event}
@@ -31,9 +31,10 @@ Keeps h Closed = Unit {0}
 abbrev pub InOrder : Stream → Type 0
 InOrder s = Keeps (s .header) (s .phase)
 
--- a stream, with the buffer of its line
+-- a stream, with the buffer of its line; the link that is held was accepted under its header
 pub record Ready (s : Stream) (line : List ℕ) : Type 0 where
   pub keeps : InOrder s
+  pub held : Held (s .header) (s .link)
   pub fits : s .size ≤ 2048
   pub room : length line ≡ 2048
 

@@ -8,7 +8,10 @@ use Rattle.fields.specs.Tests.{pick}
 use Rattle.lines.specs.Lines.{Line, bytesIn, endedIn, sinceLf, lastIn, lastLine}
 use Rattle.records.specs.Inside.{noHeader}
 use Rattle.records.specs.FirstLine.{Head, rightHead, wrongHead}
+use Rattle.links.specs.Links.{noLink}
+use Rattle.links.specs.declared.Link.{Link}
 use Rattle.judging.specs.Judging.{judged, openBooks, booksAfter}
+use Rattle.judging.specs.Linking.{linkAfter}
 use Rattle.judging.specs.declared.Books.{Books}
 use Rattle.judging.specs.declared.Order.{Order}
 use Rattle.ledger.specs.Meeting.{Met, begun, headless, numbered, headOf}
@@ -16,9 +19,9 @@ use Rattle.ledger.specs.declared.Phase.{Phase}
 use Rattle.ledger.specs.declared.Phase.the-variants.{First, Body, Past, Closed}
 use Rattle.ledger.specs.declared.Stream.{Stream}
 
--- where the reading starts
+-- where the reading starts; no link is held
 unfoldable pub fresh : Order → Stream
-fresh o = record { order = o; phase = First; header = noHeader; size = 0 }
+fresh o = record { order = o; phase = First; header = noHeader; link = noLink; size = 0 }
 
 -- nothing that follows counts
 abbrev pub isOver : Phase → Bool
@@ -29,7 +32,10 @@ isOver Closed = true
 
 -- the stream between two lines, in a phase
 abbrev pub inPhase : Stream → Phase → Stream
-inPhase s p = record { order = s .order; phase = p; header = s .header; size = 0 }
+inPhase s p = record { order = s .order; phase = p; header = s .header; link = s .link; size = 0 }
+
+abbrev pub withLink : Stream → Link → Stream
+withLink s k = record { order = s .order; phase = s .phase; header = s .header; link = k; size = s .size }
 
 -- the last line that is read has number 4,294,967,295
 unfoldable pub bodyAt : Books → Phase
@@ -42,7 +48,7 @@ metHead (rightHead h) line = begun line ∷ []
 
 abbrev pub onHead : Stream → Head → Stream
 onHead s wrongHead = inPhase s Closed
-onHead s (rightHead h) = record { order = s .order; phase = Body openBooks; header = h; size = 0 }
+onHead s (rightHead h) = record { order = s .order; phase = Body openBooks; header = h; link = noLink; size = 0 }
 
 -- what a line meets in each phase, and what it leaves
 abbrev pub metInPhase : Stream → Phase → Line → List Met
@@ -53,7 +59,8 @@ metInPhase s Closed l = []
 
 abbrev pub onPhase : Stream → Phase → Line → Stream
 onPhase s First l = onHead s (headOf l)
-onPhase s (Body b) l = inPhase s (bodyAt (booksAfter b (judged (s .order) (s .header) b l)))
+onPhase s (Body b) l =
+    inPhase (withLink s (linkAfter (s .order) (s .header) b (s .link) l)) (bodyAt (booksAfter b (judged (s .order) (s .header) b l)))
 onPhase s (Past b) l = inPhase s (Past b)
 onPhase s Closed l = inPhase s Closed
 
@@ -77,7 +84,7 @@ unfoldable pub metAfter : Stream → List ℕ → List ℕ → List Met
 metAfter s come x = metAlong s (endedIn come x)
 
 abbrev pub holding : Stream → ℕ → Stream
-holding s n = record { order = s .order; phase = s .phase; header = s .header; size = n }
+holding s n = record { order = s .order; phase = s .phase; header = s .header; link = s .link; size = n }
 
 unfoldable pub streamAfter : Stream → List ℕ → List ℕ → Stream
 streamAfter s come x = holding (onLines s (endedIn come x)) (length (sinceLf come x))

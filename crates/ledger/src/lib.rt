@@ -4,6 +4,7 @@ mod stepping;
 use judging::Books;
 use judging::Judged;
 use judging::Order;
+use links::Link;
 use records::FirstLine;
 pub use stepping::close;
 pub use stepping::is_over;
@@ -18,11 +19,12 @@ pub enum Phase {
     Closed,
 }
 
-// A journal being read: its header once line 1 was right, and how many bytes of the present line are in its buffer.
+// A journal being read: its header once line 1 was right, the link of the last good line below it, and how many bytes of the present line are in its buffer.
 pub struct Stream {
     pub order: Order,
     pub phase: Phase,
     pub header: FirstLine,
+    pub link: Link,
     pub size: usize,
 }
 

@@ -6,8 +6,8 @@ ghost use lib.ListN.{length};
 ghost use Rattle.lines.specs.Lines.{whole, long, unended};
 ghost use Rattle.records.specs.Inside.{LowHeights};
 ghost use Rattle.judging.specs.Judging.{openBooks, booksAfter};
-ghost use Rattle.judging.specs.Inside.{Sound, Adds};
-ghost use Rattle.ledger.specs.Passing.{fresh, isOver, inPhase, bodyAt, metLast, onLast};
+ghost use Rattle.judging.specs.Inside.{Sound, Adds, Held};
+ghost use Rattle.ledger.specs.Passing.{fresh, isOver, inPhase, withLink, bodyAt, metLast, onLast};
 ghost use Rattle.ledger.specs.Inside.{InOrder, Ready, metBy, TakesLine, Steps, Closes};
 use crate::Event;
 use crate::Noted;
@@ -21,6 +21,8 @@ use judging::books_after;
 use judging::judge;
 use lines::LIMIT;
 use lines::Taken;
+use links::Link;
+use links::no_link;
 use records::Heading;
 use records::no_header;
 use records::read_header;
@@ -33,6 +35,7 @@ pub fn new(order: Order) -> Stream
         order,
         phase: Phase::First,
         header: no_header(),
+        link: no_link(),
         size: 0,
     }
 }
@@ -56,10 +59,12 @@ fn between(stream: Stream, phase: Phase) -> Stream
 {
     let order = stream.order;
     let header = stream.header;
+    let link = stream.link;
     Stream {
         order,
         phase,
         header,
+        link,
         size: 0,
     }
 }
@@ -86,14 +91,16 @@ fn phase_at(books: Books) -> Phase
     Phase::Past(books)
 }
 
-// A later line of this case.
-fn later(stream: Stream, books: Books, judged: Judged) -> Noted
+// A later line of this case, which leaves this link.
+fn later(stream: Stream, books: Books, judged: Judged, link: Link) -> Noted
     requires { ⌜ Sound books × Adds judged ⌝ }
-    ensures { λ r. ⌜ (r .stream ≡ inPhase stream (bodyAt (booksAfter books judged))) × (r .event ≡ Event.Numbered (books .number) judged) ⌝ }
+    ensures { λ r. ⌜ (r .stream ≡ inPhase (withLink stream link) (bodyAt (booksAfter books judged))) × (r .event ≡ Event.Numbered (books .number) judged) ⌝ }
 {
     let next = books_after(books, judged);
+    let mut linked = stream;
+    linked.link = link;
     Noted {
-        stream: between(stream, phase_at(next)),
+        stream: between(linked, phase_at(next)),
         event: Event::Numbered(books.number, judged),
     }
 }
@@ -128,11 +135,13 @@ fn first_line(stream: Stream, line: &[u8]) -> Noted
     };
     let header = headed.header;
     let order = stream.order;
+    let link = no_link();
     Noted {
         stream: Stream {
             order,
             phase: Phase::Body(open_books()),
             header,
+            link,
             size: 0,
         },
         event: Event::Begun,
@@ -140,17 +149,20 @@ fn first_line(stream: Stream, line: &[u8]) -> Noted
 }
 
 fn whole_line(stream: Stream, line: &[u8]) -> Noted
-    requires { ⌜ InOrder stream ⌝ }
+    requires { ⌜ InOrder stream × Held (stream .header) (stream .link) ⌝ }
     ensures { λ r. ⌜ TakesLine stream (whole (now (line .entry))) r ⌝ }
 {
     let order = stream.order;
     let header = stream.header;
+    let link = stream.link;
     let phase = stream.phase;
     match phase {
         Phase::First => first_line(stream, line),
         Phase::Body(books) => {
-            let judged = judge(order, header, books, line);
-            later(stream, books, judged)
+            let weighed = judge(order, header, books, link, line);
+            let judged = weighed.judged;
+            let own = weighed.link;
+            later(stream, books, judged, own)
         }
         Phase::Past(_) => unheard(stream, phase),
         Phase::Closed => unheard(stream, phase),
@@ -162,10 +174,11 @@ fn broken_line(stream: Stream) -> Noted
     requires { ⌜ InOrder stream ⌝ }
     ensures { λ r. ⌜ ((l : List ℕ) → TakesLine stream (long l) r × TakesLine stream (unended l) r) ⌝ }
 {
+    let link = stream.link;
     let phase = stream.phase;
     match phase {
         Phase::First => headless(stream),
-        Phase::Body(books) => later(stream, books, Judged::Malformed),
+        Phase::Body(books) => later(stream, books, Judged::Malformed, link),
         Phase::Past(_) => unheard(stream, phase),
         Phase::Closed => unheard(stream, phase),
     }

@@ -40,6 +40,7 @@ fn show_last(line: &mut [u8], out: &mut [u8])
         return;
     };
     let header = begun.header;
+    let link = begun.link;
     let size = begun.size;
     let late = Stream {
         order: Order::Strict,
@@ -51,6 +52,7 @@ fn show_last(line: &mut [u8], out: &mut [u8])
             cents: 0,
         }),
         header,
+        link,
         size,
     };
     let fed = verdicts::feed(late, b"x\nx\nx\n", line, out, 0);

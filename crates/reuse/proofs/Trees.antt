@@ -1,29 +1,23 @@
 -- One signature, one step: from one tree to a list of them, and to the call.
 use mathlib.Core.Path.{_≡_, refl, sym, ap, _∙_}
-use mathlib.Core.Bool.{Bool, true, false, _&&_}
+use mathlib.Core.Bool.{true}
 use mathlib.Core.List.{List, [], _∷_}
 use Prim.Native.Nat.{ℕ, _*_, _/_, _^_, _≤_, _<_}
 use native.Mathlib.Nat.{div-add-mod'}
 use native.Mathlib.Decide.{ℕ-discrete}
 use native.Mathlib.Omega.{arith}
-use lib.Dec.{ltb, leb, eqb}
+use lib.Dec.{eqb}
 use lib.ListN.{length, take, drop, length-drop}
 use lib.Seq.{length-take-le}
-use borrow.Author.Tests.{eqb-true, leb-false}
+use borrow.Author.Tests.{eqb-true}
 use Rattle.fields.proofs.Cases.{both}
-use Rattle.fields.specs.Tests.{pick, same}
-use Rattle.blake2b.specs.Calls.{limit}
+use Rattle.fields.specs.Tests.{same}
 use Rattle.rfc7693.specs.Rfc7693.{hash}
 use Rattle.blake2b.proofs.Facts.{hash-length}
-use Rattle.refusal.specs.declared.Refusal.{Refusal}
-use Rattle.refusal.specs.declared.Refusal.the-variants.{Height, SeedOrKey, Length, PastEnd, TooLong}
 use Rattle.tree.specs.Sum.{sumSize, signedVk, signedPath, climb, pathFits, leafAccepts, sumVerdict}
 use Rattle.rules.specs.Part.{total, outer, inner, sumsSize, sumsVerdict, partVerdict}
-use Rattle.rules.specs.Table.{steps, signatureSize}
-use Rattle.rules.specs.Trees.{belowOf, tooHigh}
-use Rattle.rules.specs.declared.Heights.{Heights}
-use Rattle.rules.specs.Calls.{VerifyOutcome, verifyOutcome, verdictOf}
-use Rattle.rules.specs.declared.Verdict.the-variants.{Accepted, Rejected, Refused}
+use Rattle.rules.specs.Trees.{belowOf}
+use Rattle.rules.proofs.Linking.{passed}
 use Rattle.rules.proofs.Steps.{inner-lt, outer-lt}
 use Rattle.reuse.specs.Twice.{Tells}
 use Rattle.reuse.specs.OneStep.{Reused, lowest, top, below, OneStepOf, OneStep}
@@ -86,33 +80,6 @@ sums-twice (g ∷ hs) root m x roots h t u l lt lu f p q = go (sums-twice hs) (�
         let eu = div-add-mod' u w in
         let ep : t / w * w ≡ u / w * w = ap (λ (r : ℕ). r * w) e in
         let z : t ≡ u = omega arith in z)) (a .1) (b .1))
-
--- what an accepted signature has passed
-record Passed (ht : Heights) (k : List ℕ) (t : ℕ) (m x : List ℕ) : Type 0 where
-  exact : length x ≡ signatureSize ht
-  soon : t < steps ht
-  holds : partVerdict k (ht .top) (belowOf ht) t m x ≡ true
-
-refused : (why : Refusal) → Refused why ≡ Accepted → ⊥
-refused why e = let z : _≡_ {A = ℕ} 0 1 = cc in omega arith
-
-passed : (ht : Heights) (k : List ℕ) (t : ℕ) (m x : List ℕ) → verifyOutcome ht k t m x .answer ≡ Accepted → Passed ht k t m x
-unfolding verifyOutcome verdictOf
-passed ht k t m x =
-    go (tooHigh ht) (eqb (length k) 32) (eqb (length x) (signatureSize ht)) (ltb limit (length m)) (leb (steps ht) t) (partVerdict k (ht .top) (belowOf ht) t m x)
-    refl refl refl
-  where
-    go : (a b c d e f : Bool) → eqb (length x) (signatureSize ht) ≡ c → leb (steps ht) t ≡ e → partVerdict k (ht .top) (belowOf ht) t m x ≡ f
-        → pick a (Refused Height) (pick b (pick c (pick d (Refused TooLong) (pick e (Refused PastEnd) (pick f Accepted Rejected))) (Refused Length)) (Refused SeedOrKey))
-        ≡ Accepted → Passed ht k t m x
-    go true b c d e f p q r z = absurd (refused Height z)
-    go false false c d e f p q r z = absurd (refused SeedOrKey z)
-    go false true false d e f p q r z = absurd (refused Length z)
-    go false true true true e f p q r z = absurd (refused TooLong z)
-    go false true true false true f p q r z = absurd (refused PastEnd z)
-    go false true true false false false p q r z = absurd (let z : _≡_ {A = ℕ} 0 1 = cc in let q : ⊥ = omega arith in q)
-    go false true true false false true p q r z =
-        record { exact = eqb-true (length x) (signatureSize ht) p; soon = leb-false (steps ht) t q; holds = r }
 
 pub one-step-of : (h : ℕ) (hs : List ℕ) → OneStepOf h hs
 unfolding partVerdict

@@ -1,6 +1,7 @@
 use mathlib.Core.Path.{refl, subst}
 use borrow.Author.Needs.{needs}
 use Rattle.judging.specs.Judging.{judged}
+use Rattle.judging.specs.Linking.{linkAfter}
 use Rattle.ledger.specs.Inside.{Keeps}
 use Rattle.ledger.specs.Meeting.{headBy}
 use Rattle.ledger.proofs.Phases.{takes-wrong, takes-later, takes-past, takes-closed}
@@ -9,7 +10,7 @@ use Rattle.ledger.proofs.stepping.broken_line.Tie as tie
 
 later-requires : tie.Need-later-requires
 later-requires c κs =
-    let s = c .before .before .before in
+    let s = c .before .before .before .before in
     (subst (Keeps (s .args .stream .header)) (c .before .phase .given .1) (s .pre) .1, tt)
 
 returns : tie.Need-returns
@@ -20,11 +21,11 @@ returns c l =
     (takes-wrong e refl (h .0) (h .1), takes-wrong e refl (h .0) (h .1))
 
 returns-2 : tie.Need-returns-2
-unfolding judged
+unfolding judged linkAfter
 returns-2 c l =
     let e = c .before .before .phase .given .1 in
     let h = c .later .ensures in
-    (takes-later e refl (h .0) (h .1), takes-later e refl (h .0) (h .1))
+    (takes-later e refl refl (h .0) (h .1), takes-later e refl refl (h .0) (h .1))
 
 returns-3 : tie.Need-returns-3
 returns-3 c l =

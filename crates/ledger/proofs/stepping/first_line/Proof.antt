@@ -1,8 +1,9 @@
-use mathlib.Core.Path.{refl, ap, _∙_}
+use mathlib.Core.Path.{refl, ap₂}
 use borrow.Author.Needs.{needs}
 use Rattle.text.specs.Columns.{columns}
 use Rattle.records.specs.FirstLine.{headIn}
 use Rattle.records.proofs.LineOne.{was-wrong, was-right}
+use Rattle.links.specs.declared.Link.{Link}
 use Rattle.judging.specs.declared.Books.{Books}
 use Rattle.ledger.specs.Meeting.{headBy}
 use Rattle.ledger.specs.declared.Phase.the-variants.{Body}
@@ -19,9 +20,9 @@ returns c =
 returns-2 : tie.Need-returns-2
 unfolding headBy
 returns-2 c =
-    let a = c .before .before .before .before .before .before in
-    takes-right (a .pre) (was-right (headIn (columns (a .args .line .now))) (c .before .before .before .before .read-header .ensures .0) (c .before .before .enum-told .given .1))
-    (ap (λ (b : Books). record { order = a .args .stream .order; phase = Body b; header = c .before .before .before .before .read-header .result .header; size = 0 }) (c .open-books .ensures)) refl
+    let a = c .before .before .before .before .before .before .before in
+    takes-right (a .pre) (was-right (headIn (columns (a .args .line .now))) (c .before .before .before .before .before .read-header .ensures .0) (c .before .before .before .enum-told .given .1))
+    (ap₂ (λ (b : Books) (k : Link). record { order = a .args .stream .order; phase = Body b; header = c .before .before .before .before .before .read-header .result .header; link = k; size = 0 }) (c .open-books .ensures) (c .before .no-link .ensures)) refl
 
 pub first-line-spec : {M : Type 1} → statement M
 first-line-spec =
@@ -32,5 +33,6 @@ first-line-spec =
     (λ c. search needs)
     (λ c κs. search needs)
     returns
+    (λ c κs. search needs)
     (λ c κs. search needs)
     returns-2)

@@ -1,9 +1,8 @@
-use mathlib.Core.Path.{sym, subst}
+use mathlib.Core.Path.{subst}
 use borrow.Author.Needs.{needs}
-use Rattle.lines.specs.Lines.{whole}
 use Rattle.judging.specs.Judging.{judged}
-use Rattle.judging.specs.Inside.{Adds}
-use Rattle.judging.proofs.Adding.{judged-adds}
+use Rattle.judging.specs.Linking.{linkAfter}
+use Rattle.judging.proofs.Adding.{whole-adds}
 use Rattle.ledger.specs.Inside.{Keeps}
 use Rattle.ledger.proofs.Phases.{takes-later, takes-past, takes-closed}
 use Rattle.ledger.proofs.stepping.whole_line.Statement.{statement}
@@ -11,21 +10,22 @@ use Rattle.ledger.proofs.stepping.whole_line.Tie as tie
 
 judge-requires : tie.Need-judge-requires
 judge-requires c κs =
-    let s = c .before .before .before .before .before in
-    let k = subst (Keeps (s .args .stream .header)) (c .before .phase .given .1) (s .pre) in
-    (k .0, k .1)
+    let s = c .before .before .before .before .before .before in
+    let k = subst (Keeps (s .args .stream .header)) (c .before .phase .given .1) (s .pre .0) in
+    (k .0, k .1, s .pre .1)
 
 later-requires : tie.Need-later-requires
-unfolding judged
 later-requires c κs =
-    let s = c .before .before .before .before .before .before in
-    let k = subst (Keeps (s .args .stream .header)) (c .before .before .phase .given .1) (s .pre) in
-    let j = judged-adds (s .args .stream .order) (s .args .stream .header) (c .before .before .phase .given .0 .0) (whole (s .args .line .now)) in
-    (k .1, subst Adds (sym (c .judge .ensures .0)) j)
+    let s = c .before .before .before .before .before .before .before .before in
+    let a = s .args in
+    let k = subst (Keeps (a .stream .header)) (c .before .before .before .phase .given .1) (s .pre .0) in
+    (k .1, whole-adds (a .stream .order) (a .stream .header) (c .before .before .before .phase .given .0 .0) (a .line .now) (c .before .judge .ensures .0 .case))
 
 returns-2 : tie.Need-returns-2
-unfolding judged
-returns-2 c = takes-later (c .before .before .before .phase .given .1) (c .before .judge .ensures .0) (c .later .ensures .0) (c .later .ensures .1)
+unfolding judged linkAfter
+returns-2 c =
+    let j = c .before .before .judge .ensures .0 in
+    takes-later (c .before .before .before .before .phase .given .1) (j .case) (j .link) (c .later .ensures .0) (c .later .ensures .1)
 
 returns-3 : tie.Need-returns-3
 returns-3 c = takes-past (c .before .enum-told2 .given .1) (c .unheard .ensures .0) (c .unheard .ensures .1)
