@@ -1,13 +1,10 @@
 #!/usr/bin/env python3
 """Writes what the program ed25519_cases reads and must write under the gate, from the model of the stand-in.
 With --check it writes nothing and says whether the two files are those."""
-import pathlib
-import sys
-
 import standin
+from filed import keep
 from frames import ask_key, ask_sign, ask_verify, flipped, given, silence, verdict
 
-FOLDER = pathlib.Path(__file__).resolve().parents[2] / "crates" / "ed25519_cases"
 SECRETS = [bytes(32), bytes([255]) * 32, bytes(range(32))]
 TALLIES = [0, 1, 99, 100, 101, 2**32 - 1, 2**32, 2**32 + 99, 2**32 + 100, 2**32 + 101, 2**64 - 2**32 + 100, 2**64 - 1]
 MESSAGES = [b"", b"\0", b"abc", bytes(range(256)), bytes(4095), bytes(i * 7 % 256 for i in range(4096))]
@@ -53,14 +50,7 @@ def cases():
 def main():
     requests, answers = zip(*cases())
     made = {"stdin": b"".join(requests), "stdout": b"".join(answers)}
-    if sys.argv[1:] == ["--check"]:
-        for name, data in made.items():
-            if (FOLDER / name).read_bytes() != data:
-                sys.exit(f"crates/ed25519_cases/{name} is not what host/model/ed25519_cases.py writes")
-        print(f"ed25519 cases: {len(requests)} requests and answers are those of the model")
-    else:
-        for name, data in made.items():
-            (FOLDER / name).write_bytes(data)
+    keep("ed25519_cases", made, f"ed25519 cases: {len(requests)} requests and answers are those of the model")
 
 
 main()

@@ -2,14 +2,12 @@
 """Writes what the program fair_cases must print under the gate, from the model with the stand-in.
 With --check it writes nothing and says whether the file is that."""
 import itertools
-import pathlib
-import sys
 
 import standin
 from fair import SIGNATURE, Fair, cache_size
+from filed import keep_lines
 from kes import H, Module
 
-STDOUT = pathlib.Path(__file__).resolve().parents[2] / "crates" / "fair_cases" / "stdout"
 # from this tally on the stand-in answers for long; from SILENT - k on the k-th call is not answered
 ANSWERED, SILENT = 1000, 2**32 + 100
 # a make at N = 3 asks seven times
@@ -162,14 +160,4 @@ def lines():
         yield from group()
 
 
-def main():
-    text = "".join(line + "\n" for line in lines())
-    if sys.argv[1:] != ["--check"]:
-        STDOUT.write_text(text)
-    elif STDOUT.read_text() != text:
-        sys.exit("crates/fair_cases/stdout is not what host/model/fair_cases.py writes")
-    else:
-        print(f"fair cases: {len(text.splitlines())} lines are those of the model")
-
-
-main()
+keep_lines("fair_cases", lines())

@@ -1,13 +1,10 @@
 #!/usr/bin/env python3
 """Writes what the program key_cases must print under the gate, from the model with the stand-in.
 With --check it writes nothing and says whether the file is that."""
-import pathlib
-import sys
-
 import standin
+from filed import keep_lines
 from kes import H, Module, Scheme, signature_size, steps, table_size
 
-STDOUT = pathlib.Path(__file__).resolve().parents[2] / "crates" / "key_cases" / "stdout"
 HEIGHTS = [(2, 2), (1, 0), (0, 1), (3, 2), (0, 0, 0), (1, 1, 1), (0, 1, 0), (2, 1, 2)]
 # of 16 steps
 WINDOWS = [(2, 2), (1, 1, 2)]
@@ -212,14 +209,4 @@ def lines():
     yield from edges()
 
 
-def main():
-    text = "".join(line + "\n" for line in lines())
-    if sys.argv[1:] != ["--check"]:
-        STDOUT.write_text(text)
-    elif STDOUT.read_text() != text:
-        sys.exit("crates/key_cases/stdout is not what host/model/key_cases.py writes")
-    else:
-        print(f"key cases: {len(text.splitlines())} lines are those of the model")
-
-
-main()
+keep_lines("key_cases", lines())

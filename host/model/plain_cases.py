@@ -2,14 +2,12 @@
 """Writes what the program plain_cases must print under the gate, from the model with the stand-in.
 With --check it writes nothing and says whether the file is that."""
 import itertools
-import pathlib
-import sys
 
 import standin
+from filed import keep_lines
 from kes import H, Module, sum_size
 from plain import Plain, table_size
 
-STDOUT = pathlib.Path(__file__).resolve().parents[2] / "crates" / "plain_cases" / "stdout"
 # from this tally on the stand-in answers for long; from SILENT - k on the k-th call is not answered
 ANSWERED, SILENT = 1000, 2**32 + 100
 MODULE = Module(standin, standin.answered, ANSWERED)
@@ -104,14 +102,4 @@ def lines():
         yield from group()
 
 
-def main():
-    text = "".join(line + "\n" for line in lines())
-    if sys.argv[1:] != ["--check"]:
-        STDOUT.write_text(text)
-    elif STDOUT.read_text() != text:
-        sys.exit("crates/plain_cases/stdout is not what host/model/plain_cases.py writes")
-    else:
-        print(f"plain cases: {len(text.splitlines())} lines are those of the model")
-
-
-main()
+keep_lines("plain_cases", lines())

@@ -4,7 +4,6 @@ stand-in. With --check it writes nothing and says whether the files are those.
 
 A case is a name, the fields that its author worked out by hand (H, or the numbers), and the journal that stands there. Where the model writes
 something else, or where the run does not notice one of the misreadings below, nothing is written."""
-import pathlib
 import re
 import sys
 from unittest.mock import patch
@@ -12,10 +11,10 @@ from unittest.mock import patch
 import quarter
 import standin
 from desk import Desk
+from filed import keep
 from journal import Judge
 from kes import Module, Scheme
 
-FOLDER = pathlib.Path(__file__).resolve().parents[2] / "crates" / "quarter"
 SCHEME = Scheme(Module(standin))
 JUDGE = Judge(SCHEME)
 ONE, EIGHT, SHORT, TABBED, TABBED_SHORT = (
@@ -183,10 +182,6 @@ def made():
     return {**{f"data/{name.decode()}": data for name, data in FILES.items()}, "stdin": INPUT, "stdout": written()}
 
 
-def on_disk():
-    return {str(path.relative_to(FOLDER)): path.read_bytes() for path in [*FOLDER.glob("data/*"), FOLDER / "stdin", FOLDER / "stdout"]}
-
-
 def sound():
     """There are 67 names, the cases are written as their authors worked them out, and each misreading is noticed."""
     right = written()
@@ -201,19 +196,5 @@ def sound():
                 sys.exit(f"quarter cases: none notices this misreading: {words}")
 
 
-def main():
-    sound()
-    files = made()
-    if sys.argv[1:] != ["--check"]:
-        (FOLDER / "data").mkdir(parents=True, exist_ok=True)
-        for stale in FOLDER.glob("data/*"):
-            stale.unlink()
-        for name, data in files.items():
-            (FOLDER / name).write_bytes(data)
-    elif on_disk() != files:
-        sys.exit("crates/quarter has not the data, stdin and stdout that host/model/quarter_cases.py writes")
-    else:
-        print(f"quarter cases: {len(NAMES)} names and what is written of them are those of the model; {len(MISREADINGS)} planted misreadings are noticed")
-
-
-main()
+sound()
+keep("quarter", made(), f"quarter cases: {len(NAMES)} names and what is written of them are those of the model; {len(MISREADINGS)} planted misreadings are noticed")

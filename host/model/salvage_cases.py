@@ -12,11 +12,10 @@ import journal
 import salvage
 import standin
 from desk import Desk
-from filed import CRATES, file
+from filed import file, keep
 from journal import LONGEST_LINE, Judge
 from kes import Module, Scheme, steps
 
-PROGRAM = CRATES / "salvage"
 SCHEME = Scheme(Module(standin))
 JUDGE = Judge(SCHEME)
 ONE, EIGHT, SHORT, TABBED, TABBED_SHORT = (
@@ -243,15 +242,6 @@ def sound():
                 sys.exit(f"salvage cases: none notices this misreading: {words}")
 
 
-def program():
-    """Writes the files of the program salvage; with --check it says whether they stand there."""
-    for name, data in made().items():
-        if sys.argv[1:] != ["--check"]:
-            (PROGRAM / name).write_bytes(data)
-        elif (PROGRAM / name).read_bytes() != data:
-            sys.exit(f"crates/salvage has another {name} than host/model/salvage_cases.py writes")
-
-
 sound()
-program()
+keep("salvage", made(), "salvage: what the program reads and writes is the model's")
 file("salvage_cases", CASES, lambda data: shown(written(data)), f"salvage cases: {len(CASES)} damaged journals are salvaged as by the model; {len(MISREADINGS)} planted misreadings are noticed")

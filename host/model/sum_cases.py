@@ -1,14 +1,11 @@
 #!/usr/bin/env python3
 """Writes what the program sum_cases reads and must write under the gate, from the model with the stand-in.
 With --check it writes nothing and says whether the two files are those."""
-import pathlib
-import sys
-
 import standin
+from filed import keep
 from frames import ask_sum, flipped, verdict
 from kes import H, Module, Scheme
 
-FOLDER = pathlib.Path(__file__).resolve().parents[2] / "crates" / "sum_cases"
 MODEL = Scheme(Module(standin))
 SECRET = bytes(range(32))
 LONGEST = bytes(i * 7 % 256 for i in range(4096))
@@ -51,14 +48,7 @@ def main():
     requests = b"".join(ask_sum(*case) for case in cases + unjudged())
     verdicts = b"".join(verdict(MODEL.sum_verdict(*case)) for case in cases)
     made = {"stdin": requests, "stdout": verdicts}
-    if sys.argv[1:] == ["--check"]:
-        for name, data in made.items():
-            if (FOLDER / name).read_bytes() != data:
-                sys.exit(f"crates/sum_cases/{name} is not what host/model/sum_cases.py writes")
-        print(f"sum cases: {len(cases)} verdicts are those of the model, {verdicts.count(1)} accepted and {verdicts.count(0)} not")
-    else:
-        for name, data in made.items():
-            (FOLDER / name).write_bytes(data)
+    keep("sum_cases", made, f"sum cases: {len(cases)} verdicts are those of the model, {verdicts.count(1)} accepted and {verdicts.count(0)} not")
 
 
 main()

@@ -2,13 +2,11 @@
 """Writes what the program tree_cases must write, from the model with the stand-in.
 With --check it writes nothing and says whether crates/tree_cases/stdout is that."""
 import itertools
-import pathlib
-import sys
 
 import standin
+from filed import keep_lines
 from kes import H, ZEROS, Module, Scheme, Silent
 
-STORED = pathlib.Path(__file__).resolve().parents[2] / "crates" / "tree_cases" / "stdout"
 SEED = bytes(range(1, 33))
 # from SILENT - k on the k-th call is not answered
 SILENT = 2**32 + 100
@@ -74,15 +72,5 @@ def lines(scheme):
     yield from unanswered(scheme)
 
 
-def main():
-    text = "".join(line + "\n" for line in lines(Scheme(MODULE)))
-    if sys.argv[1:] != ["--check"]:
-        STORED.write_text(text)
-    elif STORED.read_text() != text:
-        sys.exit("crates/tree_cases/stdout is not what host/model/tree_cases.py writes")
-    else:
-        print("tree cases: %d lines are those of the model" % len(text.splitlines()))
-
-
 if __name__ == "__main__":
-    main()
+    keep_lines("tree_cases", lines(Scheme(MODULE)))
