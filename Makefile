@@ -4,13 +4,13 @@
 help:
 	@echo 'make demo    build everything for the desk and show a short day of it, and one at a fair'
 	@echo 'make lesson  a tree for those who learn the rules, at a step (STEP=0 to 7)'
-	@echo 'make test    every check there is: host tests and the gate (rt ci), side by side'
-	@echo 'make desk    build/: the library and programs with real Ed25519 (ED25519=sodium or openssl)'
+	@echo 'make test    every check there is: the gate (rt ci), and then the host tests'
+	@echo 'make desk    build/: the library and programs with real Ed25519 (ED25519=sodium or openssl; ANEW=1: from nothing)'
 	@echo 'make install puts library, header, programs and man pages under PREFIX (and DESTDIR)'
 	@echo 'make bench   race the hash, the calls and the journal against plain C and libsodium alone'
 	@echo 'make plot    draw docs/speed.svg from what the last make bench found'
 	@echo 'make fuzz    hostile input for long, against the model and coverage-guided (SEED=, SECONDS=600)'
-	@echo 'make clean   remove build/ and target/'
+	@echo 'make clean   remove build/ and what rt keeps in crates/*/out/'
 
 desk:
 	@host/need gcc binutils libsodium-dev libssl-dev
@@ -45,4 +45,4 @@ fuzz: desk
 	@host/fuzz/run '$(SECONDS)' '$(SEED)'
 
 clean:
-	rm -rf build target
+	rm -rf build crates/*/out

@@ -8,12 +8,28 @@ ROOT = pathlib.Path(__file__).resolve().parents[2]
 HEADING = "## What functions ask for\n"
 
 
+def clauses(text):
+    """The words of the clauses of a contract, which stand between a function's name and its body, each with or without a name of its own."""
+    depth = 0
+    for part in re.finditer(r"[{}]", text):
+        if part[0] == "}":
+            depth -= 1
+            continue
+        if depth == 0:
+            word = re.search(r"\b(requires|ensures|ghost)\b[^{}]*$", text[: part.start()])
+            if not word:
+                return
+            yield word[1]
+        depth += 1
+
+
 def asking():
-    """The public functions that ask, by the sources: a contract stands between a function's name and its body."""
+    """The public functions that ask, by the sources."""
     for path in (ROOT / "crates").glob("*/src/**/*.rt"):
-        for name, contract in re.findall(r'^ *pub (?:extern "C" )?fn (\w+)(.*?)\{$', path.read_text(), re.M | re.S):
-            if "requires {" in contract:
-                yield path.relative_to(ROOT / "crates").parts[0], name
+        text = re.sub(r"//.*", "", path.read_text())
+        for function in re.finditer(r'^ *pub (?:[\w"]+ )*fn (\w+)', text, re.M):
+            if "requires" in clauses(text[function.end() :]):
+                yield path.relative_to(ROOT / "crates").parts[0], function[1]
 
 
 def told():

@@ -20,7 +20,7 @@ def c_name(variant):
 
 
 def main():
-    proved = found("crates/refusal/specs/Numbers.antt", r"^numberOf (?P<name>\w+) = (?P<number>\d+)$")
+    proved = found("crates/refusal/specs/Numbers.antt", r"^number_of (?P<name>\w+) = (?P<number>\d+)$")
     expected = [DONE, *((c_name(variant), number) for variant, number in proved), NOT_ACCEPTED]
     places = {
         "include/kes.h": r"^    (?P<name>KES_\w+) = (?P<number>\d+)\b",

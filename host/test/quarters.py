@@ -36,10 +36,10 @@ def need(holds, why):
 
 
 def read(folder):
-    """Files by name, as the model reads them."""
+    """Files by name, as the model reads them; a name that is not UTF-8 leads to none."""
     def found(name):
         try:
-            return pathlib.Path(os.fsdecode(os.path.join(os.fsencode(folder), name))).read_bytes() if name else None
+            return (folder / name.decode()).read_bytes() if name else None
         except (OSError, ValueError):
             return None
     return found
@@ -47,7 +47,7 @@ def read(folder):
 
 def named(draw, n):
     """A name for the n-th journal of a set."""
-    return draw.choice([b"day-%d", b"a day %d", b"tab\t%d", b"\xff%d", b"./././%d", b"%d" + b"x" * 200]) % n
+    return draw.choice([b"day-%d", b"a day %d", b"tab\t%d", b"\xc3\xa4%d", b"\xff%d", b"./././%d", b"%d" + b"x" * 200]) % n
 
 
 def chosen(draw, files):

@@ -28,25 +28,35 @@ BEYOND = {
     "the running hash": ["blake2b/Running"],
 }
 # sealed: nobody who reads Ed25519.antt can see it
-SEALED = "standin"
+SEALED = "Rattle.standin."
+# the kit's own definitions: lists, numbers, truth values
+KIT = ("Rattle.std.", "mathlib.Core.", "Prim.")
+IMPORT = re.compile(r"^(?:pub )?use ([^\n{]*)(?:\{[^}]*\})?", re.M)
 
 
 def spec(name):
-    return ROOT / "crates" / name.split("/")[0] / "specs" / f"{name.split('/')[1]}.antt"
+    return (ROOT / "crates" / name.split("/")[0] / "specs" / f"{name.split('/')[1]}.antt").read_text()
 
 
 def used(name, seen):
     """The file and what it rests on that was not seen yet, the lowest first."""
-    if name in seen or name.startswith(SEALED) or not spec(name).exists():
+    if name in seen:
         return
     seen.add(name)
-    for crate, module in re.findall(r"^use Rattle·(\w+)(?:·specs)?\.specs\.(\w+)", spec(name).read_text(), re.M):
-        yield from used(f"{crate}/{module}", seen)
+    for source in IMPORT.findall(spec(name)):
+        if source.startswith((SEALED, *KIT)):
+            continue
+        file = re.match(r"Rattle\.(\w+)\.specs\.(\w+)", source)
+        if not file:
+            sys.exit(f"reading: {name} uses what is neither a file of definitions nor the kit's: {source}")
+        # an enum or a struct, which stands in src/
+        if file[2] != "declared":
+            yield from used(f"{file[1]}/{file[2]}", seen)
     yield name
 
 
 def lines(name):
-    return sum(1 for line in spec(name).read_text().splitlines() if line.strip() and not line.lstrip().startswith(("--", "use ")))
+    return sum(1 for line in IMPORT.sub("", spec(name)).splitlines() if line.strip() and not line.lstrip().startswith("--"))
 
 
 def rows(parts, seen):

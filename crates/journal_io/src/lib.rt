@@ -1,39 +1,49 @@
-// A top-up journal from one descriptor, and what each of its lines is worth to another.
-ghost use Rattle.std.specs.Prelude.{◌≡◌, ◌≤◌, ◌<◌, length};
+// A top-up journal from a reader, and what each of its lines is worth to a writer.
+#![tactic(auto)]
+
+ghost use Rattle.std.specs.Prelude.{◌≡◌, ◌≤◌, ◌<◌, ℕ, List, length, IfSome, OnOk};
+ghost use Rattle.std.specs.Io.KnownBytes.{Appends, Consumes};
+ghost use Rattle.verdicts.specs.Output.{journal_output};
 
 use judging::Order;
+use std::io;
+use std::io::{Error, ErrorKind, Read, Write};
 
 // Reads a piece, takes its turn, writes what the turn says, until it was the last. A read that fails is not the end of the input: no total is written.
 // Where writing fails it stops.
-fn run(from: i32, to: i32, line: &mut [u8], piece: &mut [u8], out: &mut [u8])
+fn run<R: Read, W: Write>(
+    from: &mut R,
+    to: &mut W,
+    line: &mut [u8],
+    piece: &mut [u8],
+    out: &mut [u8],
+) -> io::Result<()>
     requires { (length line.old ≡ 2048) × (length piece.old ≤ 2048) × (length out.old ≡ 65536) }
+    ensures whole { OnOk result (0 < length piece.old → IfSome (R.remaining from.old) (λ xs. Appends (W.contents to.old) (W.contents to.new) (journal_output xs))) }
+    ensures left { (bs : List ℕ) × Consumes (R.remaining from.old) (R.remaining from.new) bs }
 {
     let mut stream = ledger::new(Order::Strict);
-    let mut reads = u64::MAX;
-    while reads > 0 {
-        let answer = libc::read(from, piece);
-        if answer < 0 {
-            return;
+    for _ in 0..u64::MAX {
+        let got = from.read(piece)?;
+        let turned = verdicts::turn(stream, &piece[..got], line, out);
+        to.write_all(&out[..turned.at])?;
+        if turned.over {
+            return Ok(());
         }
-        let got = io::count(answer, piece);
-        let turned = verdicts::turn(stream, &piece[0..got], line, out);
-        let end = turned.at;
-        let written = io::write_all(to, &out[0..end]);
-        if !written || turned.over {
-            return;
-        }
-        let rest = turned.stream;
-        stream = rest;
-        reads -= 1;
+        stream = turned.stream;
     }
+    Err(Error::from(ErrorKind::TimedOut))
 }
 
-// Judges the journal at one descriptor onto another, reading at most size bytes at a time.
-pub fn judge(from: i32, to: i32, size: usize)
+// Judges the journal of a reader onto a writer, reading at most size bytes at a time. However it ends, what is left of the reader is a tail of what it had;
+// of a writer, std says nothing after an error.
+pub fn judge<R: Read, W: Write>(from: &mut R, to: &mut W, size: usize) -> io::Result<()>
     requires { (0 < size) × (size ≤ 2048) }
+    ensures whole { OnOk result (IfSome (R.remaining from.old) (λ xs. Appends (W.contents to.old) (W.contents to.new) (journal_output xs))) }
+    ensures left { (bs : List ℕ) × Consumes (R.remaining from.old) (R.remaining from.new) bs }
 {
-    let mut line = io::buffer();
-    let mut piece = io::buffer();
-    let mut out = io::large_buffer();
-    run(from, to, &mut line[0..2048], &mut piece[0..size], &mut out);
+    let mut line = [0; 4096];
+    let mut piece = [0; 4096];
+    let mut out = [0; 65536];
+    run(from, to, &mut line[..2048], &mut piece[..size], &mut out)
 }

@@ -1,8 +1,10 @@
 // Why a call of the library refuses, and what one answers that has nothing else to tell.
+#![tactic(auto)]
+
 ghost use Rattle.std.specs.Prelude.{◌≡◌};
 ghost use Rattle.refusal.specs.Numbers.{number_of};
 
-#[derive(Drop)]
+#[derive(Clone, Copy)]
 pub enum Refusal {
     Height,
     SeedOrKey,
@@ -22,7 +24,7 @@ pub enum Refusal {
 }
 
 // What reading a key, signing, releasing, hashing and the calls of a fair day answer.
-#[derive(Drop)]
+#[derive(Clone, Copy)]
 pub enum Answer {
     Done,
     Refused(Refusal),

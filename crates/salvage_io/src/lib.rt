@@ -1,62 +1,78 @@
-// A damaged journal from one descriptor: what is saved of it to a second, the list of the other lines to a third.
-ghost use Rattle.std.specs.Prelude.{◌≡◌, ◌≤◌, ◌<◌, length};
+// A damaged journal from a reader: what is saved of it to one writer, the list of the other lines to another.
+#![tactic(auto)]
 
-fn write_both(to: i32, saved: &[u8], others: i32, listed: &[u8]) -> bool {
-    let written = io::write_all(to, saved);
-    if !written {
-        return false;
-    }
-    io::write_all(others, listed)
+ghost use Rattle.std.specs.Prelude.{◌≡◌, ◌≤◌, ◌<◌, ℕ, List, length, IfSome, OnOk};
+ghost use Rattle.std.specs.Io.KnownBytes.{Appends, Consumes};
+ghost use Rattle.saving.specs.Salvage.{saved_journal, saved_list};
+
+use std::io;
+use std::io::{Error, ErrorKind, Read, Write};
+
+fn write_both<W: Write, L: Write>(
+    to: &mut W,
+    saved: &[u8],
+    others: &mut L,
+    listed: &[u8],
+) -> io::Result<()>
+    ensures saved { OnOk result (Appends (W.contents to.old) (W.contents to.new) saved.now) }
+    ensures listed { OnOk result (Appends (L.contents others.old) (L.contents others.new) listed.now) }
+{
+    to.write_all(saved)?;
+    others.write_all(listed)
 }
 
 // Reads a piece, takes its turn, writes what the turn says to each output, until it was the last. Where reading or writing fails it stops.
-fn run(
-    from: i32,
-    to: i32,
-    others: i32,
+fn run<R: Read, W: Write, L: Write>(
+    from: &mut R,
+    to: &mut W,
+    others: &mut L,
     line: &mut [u8],
     piece: &mut [u8],
     journal: &mut [u8],
     list: &mut [u8],
-)
+) -> io::Result<()>
     requires { (length line.old ≡ 2048) × (length piece.old ≤ 2048) × (length journal.old ≡ 4096) × (length list.old ≡ 65536) }
+    ensures saved { OnOk result (0 < length piece.old → IfSome (R.remaining from.old) (λ xs. Appends (W.contents to.old) (W.contents to.new) (saved_journal xs))) }
+    ensures listed { OnOk result (0 < length piece.old → IfSome (R.remaining from.old) (λ xs. Appends (L.contents others.old) (L.contents others.new) (saved_list xs))) }
+    ensures left { (bs : List ℕ) × Consumes (R.remaining from.old) (R.remaining from.new) bs }
 {
     let mut stream = saving::start();
-    let mut reads = u64::MAX;
-    while reads > 0 {
-        let answer = libc::read(from, piece);
-        if answer < 0 {
-            return;
+    for _ in 0..u64::MAX {
+        let got = from.read(piece)?;
+        let turned = salvaging::turn(stream, &piece[..got], line, journal, list);
+        write_both(to, &journal[..turned.saved], others, &list[..turned.listed])?;
+        if turned.over {
+            return Ok(());
         }
-        let got = io::count(answer, piece);
-        let turned = salvaging::turn(stream, &piece[0..got], line, journal, list);
-        let saved = turned.saved;
-        let listed = turned.listed;
-        let written = write_both(to, &journal[0..saved], others, &list[0..listed]);
-        if !written || turned.over {
-            return;
-        }
-        let rest = turned.stream;
-        stream = rest;
-        reads -= 1;
+        stream = turned.stream;
     }
+    Err(Error::from(ErrorKind::TimedOut))
 }
 
-// Saves the journal at one descriptor onto a second and lists its other lines onto a third, reading at most size bytes at a time.
-pub fn save(from: i32, to: i32, others: i32, size: usize)
+// Saves the journal of a reader onto a writer and lists its other lines onto another, reading at most size bytes at a time. However it ends, what is left of the reader is a tail of what it had;
+// of a writer, std says nothing after an error.
+pub fn save<R: Read, W: Write, L: Write>(
+    from: &mut R,
+    to: &mut W,
+    others: &mut L,
+    size: usize,
+) -> io::Result<()>
     requires { (0 < size) × (size ≤ 2048) }
+    ensures saved { OnOk result (IfSome (R.remaining from.old) (λ xs. Appends (W.contents to.old) (W.contents to.new) (saved_journal xs))) }
+    ensures listed { OnOk result (IfSome (R.remaining from.old) (λ xs. Appends (L.contents others.old) (L.contents others.new) (saved_list xs))) }
+    ensures left { (bs : List ℕ) × Consumes (R.remaining from.old) (R.remaining from.new) bs }
 {
-    let mut line = io::buffer();
-    let mut piece = io::buffer();
-    let mut journal = io::buffer();
-    let mut list = io::large_buffer();
+    let mut line = [0; 4096];
+    let mut piece = [0; 4096];
+    let mut journal = [0; 4096];
+    let mut list = [0; 65536];
     run(
         from,
         to,
         others,
-        &mut line[0..2048],
-        &mut piece[0..size],
+        &mut line[..2048],
+        &mut piece[..size],
         &mut journal,
         &mut list,
-    );
+    )
 }
