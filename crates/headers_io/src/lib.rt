@@ -66,8 +66,8 @@ fn run<R: Read, W: Write>(
     Ok(())
 }
 
-// Writes the journal of a reader to a writer, reading at most size bytes at a time. However it ends, what is left of the reader is a tail of what it had;
-// of a writer, std says nothing after an error.
+// Writes the journal of a reader to a writer, reading at most size bytes at a time.
+// After an error no clause speaks of what was written, since std says nothing of it then.
 pub fn write<R: Read, W: Write>(from: &mut R, to: &mut W, size: usize) -> io::Result<()>
     requires { (0 < size) × (size ≤ 2048) }
     ensures whole { OnOk result (IfSome (R.remaining from.old) (λ xs. Appends (W.contents to.old) (W.contents to.new) (in_full xs))) }

@@ -202,8 +202,7 @@ fn run<F: Files, R: Read, W: Write>(
     Err(Error::from(ErrorKind::TimedOut))
 }
 
-// Reads names from a reader, one a line, and writes to a writer what each leads to, and then what all do. However it ends, what is left of the reader is a tail of what it had;
-// of a writer, std says nothing after an error.
+// Reads names from a reader, one a line, and writes to a writer what each leads to, and then what all do.
 pub fn report<F: Files, R: Read, W: Write>(files: &F, from: &mut R, to: &mut W) -> io::Result<()>
     ensures { (bs : List ℕ) × Consumes (R.remaining from.old) (R.remaining from.new) bs }
 {

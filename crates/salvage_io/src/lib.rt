@@ -49,8 +49,8 @@ fn run<R: Read, W: Write, L: Write>(
     Err(Error::from(ErrorKind::TimedOut))
 }
 
-// Saves the journal of a reader onto a writer and lists its other lines onto another, reading at most size bytes at a time. However it ends, what is left of the reader is a tail of what it had;
-// of a writer, std says nothing after an error.
+// Saves the journal of a reader onto a writer and lists its other lines onto another, reading at most size bytes at a time.
+// After an error no clause speaks of what was written, since std says nothing of it then.
 pub fn save<R: Read, W: Write, L: Write>(
     from: &mut R,
     to: &mut W,
