@@ -8,7 +8,7 @@ import sys
 ROOT = pathlib.Path(__file__).resolve().parents[2]
 PAGES = ["PROOFS.md", "RULES.md", "SECURITY.md", "ASSUMPTIONS.md"]
 # what is no name of the repository: words of the language, of the journal's text, of the tables of the pages, and names of other libraries, the kit's among them
-OTHERS = set("requires match kes kes2 M O S B H total all rt sigaltstack read write close open memcpy memset foldr flatten sets".split())
+OTHERS = set("requires std ab match kes kes2 M O S B H total all rt sigaltstack read write close open memcpy memmove memset foldr flatten sets".split())
 NAME = re.compile(r"`([A-Za-z][\w'-]*)`")
 
 
@@ -18,12 +18,12 @@ def texts(*patterns):
 
 def declared():
     """The names that the repository declares."""
-    for text in texts("crates/*/specs/**/*.antt", "crates/*/proofs/**/*.antt", "desk/ed25519/*.antt.extern").values():
+    for text in texts("crates/*/specs/**/*.antt", "crates/*/proofs/**/*.antt", "desk/module/*.antt.extern").values():
         # a declaration; a field or a case, which is indented: its name, and then its type
-        yield from re.findall(r"^(?:[a-z]+ )*([^\s:(){}]+)(?: [^:\n=]*)? : ", text, re.M)
+        yield from re.findall(r"^ *(?:[a-z]+ )*([^\s:(){}]+)(?: [^:\n=]*)? : ", text, re.M)
         yield from re.findall(r"^ +(?:pub )?([^\s:(){}]+) : ", text, re.M)
-    for text in texts("crates/*/src/**/*.rt", "desk/ed25519/*.rt.extern").values():
-        yield from re.findall(r"\b(?:fn|struct|enum|const|mod|requires|ensures) (\w+)", text)
+    for text in texts("crates/*/src/**/*.rt", "desk/module/*.rt.extern").values():
+        yield from re.findall(r"\b(?:fn|struct|enum|trait|const|mod|requires|ensures) (\w+)", text)
         yield from re.findall(r"^\s*(?:pub )?(\w+):", text, re.M)
         yield from re.findall(r"^ +(\w+)(?:\([^()]*\)| \{)?,$", text, re.M)
     yield from re.findall(r"\b(?:kes|KES)\w+", (ROOT / "include" / "kes.h").read_text())

@@ -30,7 +30,7 @@ BEYOND = {
 # sealed: nobody who reads Ed25519.antt can see it
 SEALED = "Rattle.standin."
 # the kit's own definitions: lists, numbers, truth values
-KIT = ("Rattle.std.", "mathlib.Core.", "Prim.")
+KIT = ("Rattle.std.", "mathlib.Core.", "Prim.", "denote.")
 IMPORT = re.compile(r"^(?:pub )?use ([^\n{]*)(?:\{[^}]*\})?", re.M)
 
 

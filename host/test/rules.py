@@ -18,7 +18,7 @@ def named():
 
 def stands(name, path):
     file = ROOT / path
-    return file.exists() and (name is None or re.search(rf"^(\w+ )?pub ((record|data) )?{name}\b", file.read_text(), re.M))
+    return file.exists() and (name is None or re.search(rf"^ *(\w+ )?pub ((record|data) )?{name}\b", file.read_text(), re.M))
 
 
 def cited():
@@ -26,9 +26,9 @@ def cited():
     for top in ("crates", "docs", "host", "include"):
         for path in (path for path in (ROOT / top).rglob("*") if path.suffix in SUFFIXES):
             text = path.read_text()
-            yield from re.findall(r'[Dd]ocument 01, "([A-Z][^"]+)"', text)
+            yield from re.findall(r'(?:[Dd]ocument 01|RULES\.md), "([A-Z][^"]+)"', text)
             yield from (f"| rule {n} |" for pair in re.findall(r"\b[Rr]ules? (\d)(?: (?:to|and) (\d))?\b", text) for n in pair if n)
-            yield from (f"### Request {n}:" for n in re.findall(r"\b(?:[Rr]equest|CR) (\d+)", text))
+            yield from (f"| Request {n} |" for n in re.findall(r"\b(?:[Rr]equest|CR) (\d+)", text))
 
 
 definitions, citations = set(named()), set(cited())

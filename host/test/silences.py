@@ -1,7 +1,7 @@
 #!/usr/bin/env python3
 """A module that drops out, at every place at which a call can fail: each make, move and catch-up at heights 2 and 2 and at 1, 1 and 1, signing, a fair's make of three
 entries and its signing, a plain tree of height 3 and its signing, from tallies near 0, 2^32 and 2^64. Each time the call is made again with the tally left. Every answer, every
-buffer and the tally are the independent model's. And nothing but crate ed25519 stores to a tally. Needs desk/build before."""
+buffer and the tally are the independent model's. And nothing but the stand-in and the desk's module stores to a tally. Needs desk/build before."""
 import itertools
 import pathlib
 import re
@@ -82,12 +82,12 @@ def silent_places(library, model, asking):
 
 def stores():
     """The files that store to a tally."""
-    sources = [*ROOT.glob("crates/*/src/**/*.rt"), *ROOT.glob("desk/ed25519/*.rt.extern")]
+    sources = [*ROOT.glob("crates/*/src/**/*.rt"), *ROOT.glob("desk/module/*.rt.extern")]
     return {str(path.relative_to(ROOT)) for path in sources if re.search(r"\*tally\s*[-+*/%&|^<>]*=[^=]", path.read_text())}
 
 
 def main():
-    expected = {"crates/ed25519/src/lib.rt", "desk/ed25519/lib.rt.extern"}
+    expected = {"crates/standin/src/lib.rt", "desk/module/lib.rt.extern"}
     if stores() != expected:
         sys.exit(f"silences: a tally is stored to in {sorted(stores())}, not in {sorted(expected)}")
     places = {}
@@ -98,7 +98,7 @@ def main():
             places[name] = places.get(name, 0) + silent_places(library, model, asking)
     for name, count in places.items():
         print(f"silences: {name}: {count} places at which it fails, and is done when tried again")
-    print("silences: nothing but crate ed25519 stores to a tally")
+    print("silences: nothing but the stand-in and the desk's module stores to a tally")
 
 
 main()

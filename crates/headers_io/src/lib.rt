@@ -12,6 +12,7 @@ use std::io::{Error, ErrorKind, Read, Write};
 const FRONT: usize = 2048;
 
 // Reads the front of the input, all of it where it has fewer bytes; an error where a read fails, since half a line 1 decides nothing.
+// Each read says how far it came, so the loop counts by hand.
 fn read_front<R: Read>(from: &mut R, piece: &mut [u8], front: &mut [u8]) -> io::Result<usize>
     requires { (length piece.old ≤ 2048) × (length front.old ≡ 4096) }
     ensures fits { IfOk result (λ n. n ≤ 4096) }

@@ -1,10 +1,10 @@
-// Why a call of the library refuses, and what one answers that has nothing else to tell.
+// Why a call of the library refuses.
 #![tactic(auto)]
 
 ghost use Rattle.std.specs.Prelude.{◌≡◌};
 ghost use Rattle.refusal.specs.Numbers.{number_of};
 
-#[derive(Clone, Copy)]
+#[derive(Clone, Copy, Debug, PartialEq, Eq)]
 pub enum Refusal {
     Height,
     SeedOrKey,
@@ -23,32 +23,27 @@ pub enum Refusal {
     CountFull,
 }
 
-// What reading a key, signing, releasing, hashing and the calls of a fair day answer.
-#[derive(Clone, Copy)]
-pub enum Answer {
-    Done,
-    Refused(Refusal),
-}
-
 // The number that a caller in C gets.
-pub fn number(why: Refusal) -> u32
-    ensures { result ≡ number_of why }
-{
-    match why {
-        Refusal::Height => 1,
-        Refusal::SeedOrKey => 2,
-        Refusal::Table => 3,
-        Refusal::Length => 4,
-        Refusal::NotLater => 5,
-        Refusal::PastEnd => 6,
-        Refusal::TooLong => 7,
-        Refusal::Entries => 8,
-        Refusal::Unanswered => 9,
-        Refusal::Window => 10,
-        Refusal::Lowered => 11,
-        Refusal::NotReleased => 12,
-        Refusal::Full => 13,
-        Refusal::CardOrAmount => 14,
-        Refusal::CountFull => 15,
+impl From<Refusal> for u32 {
+    ghost from_gives = { λ why n. n ≡ number_of why };
+
+    fn from(why: Refusal) -> u32 {
+        match why {
+            Refusal::Height => 1,
+            Refusal::SeedOrKey => 2,
+            Refusal::Table => 3,
+            Refusal::Length => 4,
+            Refusal::NotLater => 5,
+            Refusal::PastEnd => 6,
+            Refusal::TooLong => 7,
+            Refusal::Entries => 8,
+            Refusal::Unanswered => 9,
+            Refusal::Window => 10,
+            Refusal::Lowered => 11,
+            Refusal::NotReleased => 12,
+            Refusal::Full => 13,
+            Refusal::CardOrAmount => 14,
+            Refusal::CountFull => 15,
+        }
     }
 }

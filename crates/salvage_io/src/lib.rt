@@ -5,6 +5,7 @@ ghost use Rattle.std.specs.Prelude.{◌≡◌, ◌≤◌, ◌<◌, ℕ, List, le
 ghost use Rattle.std.specs.Io.KnownBytes.{Appends, Consumes};
 ghost use Rattle.saving.specs.Salvage.{saved_journal, saved_list};
 
+use ed25519::Ed25519;
 use std::io;
 use std::io::{Error, ErrorKind, Read, Write};
 
@@ -22,7 +23,7 @@ fn write_both<W: Write, L: Write>(
 }
 
 // Reads a piece, takes its turn, writes what the turn says to each output, until it was the last. Where reading or writing fails it stops.
-fn run<R: Read, W: Write, L: Write>(
+fn run<R: Read, W: Write, L: Write, E: Ed25519>(
     from: &mut R,
     to: &mut W,
     others: &mut L,
@@ -32,41 +33,40 @@ fn run<R: Read, W: Write, L: Write>(
     list: &mut [u8],
 ) -> io::Result<()>
     requires { (length line.old ≡ 2048) × (length piece.old ≤ 2048) × (length journal.old ≡ 4096) × (length list.old ≡ 65536) }
-    ensures saved { OnOk result (0 < length piece.old → IfSome (R.remaining from.old) (λ xs. Appends (W.contents to.old) (W.contents to.new) (saved_journal xs))) }
-    ensures listed { OnOk result (0 < length piece.old → IfSome (R.remaining from.old) (λ xs. Appends (L.contents others.old) (L.contents others.new) (saved_list xs))) }
+    ensures saved { OnOk result (0 < length piece.old → IfSome (R.remaining from.old) (λ xs. Appends (W.contents to.old) (W.contents to.new) (saved_journal E.scheme xs))) }
+    ensures listed { OnOk result (0 < length piece.old → IfSome (R.remaining from.old) (λ xs. Appends (L.contents others.old) (L.contents others.new) (saved_list E.scheme xs))) }
     ensures left { (bs : List ℕ) × Consumes (R.remaining from.old) (R.remaining from.new) bs }
 {
     let mut stream = saving::start();
     for _ in 0..u64::MAX {
         let got = from.read(piece)?;
-        let turned = salvaging::turn(stream, &piece[..got], line, journal, list);
-        write_both(to, &journal[..turned.saved], others, &list[..turned.listed])?;
-        if turned.over {
+        let ends = salvaging::turn::<E>(&mut stream, &piece[..got], line, journal, list);
+        write_both(to, &journal[..ends.saved], others, &list[..ends.listed])?;
+        if verdicts::is_last(got, &stream) {
             return Ok(());
         }
-        stream = turned.stream;
     }
     Err(Error::from(ErrorKind::TimedOut))
 }
 
 // Saves the journal of a reader onto a writer and lists its other lines onto another, reading at most size bytes at a time.
 // After an error no clause speaks of what was written, since std says nothing of it then.
-pub fn save<R: Read, W: Write, L: Write>(
+pub fn save<R: Read, W: Write, L: Write, E: Ed25519>(
     from: &mut R,
     to: &mut W,
     others: &mut L,
     size: usize,
 ) -> io::Result<()>
     requires { (0 < size) × (size ≤ 2048) }
-    ensures saved { OnOk result (IfSome (R.remaining from.old) (λ xs. Appends (W.contents to.old) (W.contents to.new) (saved_journal xs))) }
-    ensures listed { OnOk result (IfSome (R.remaining from.old) (λ xs. Appends (L.contents others.old) (L.contents others.new) (saved_list xs))) }
+    ensures saved { OnOk result (IfSome (R.remaining from.old) (λ xs. Appends (W.contents to.old) (W.contents to.new) (saved_journal E.scheme xs))) }
+    ensures listed { OnOk result (IfSome (R.remaining from.old) (λ xs. Appends (L.contents others.old) (L.contents others.new) (saved_list E.scheme xs))) }
     ensures left { (bs : List ℕ) × Consumes (R.remaining from.old) (R.remaining from.new) bs }
 {
     let mut line = [0; 4096];
     let mut piece = [0; 4096];
     let mut journal = [0; 4096];
     let mut list = [0; 65536];
-    run(
+    run::<_, _, _, E>(
         from,
         to,
         others,

@@ -12,7 +12,7 @@ returns-then-n-ge-FRONT-clause-whole g c =
     let n : length (take c.in_ok-n.n f) ≡ c.in_ok-n.n = length-take-le c.in_ok-n.n f (omega (arith, c.in_ok-n.ensures.fits, c.in_ok-n.ensures.room)) in
     on-ok c.copy_rest.result
     (λ t h. both _ _ _ _ _ (take c.in_ok-n.n f) (omega (arith, n, c.if-n-ge-FRONT.true)) c.in_ok-n.ensures.reads
-    (subst (Appends _ _) (front-text c.write_out-end.ensures.puts) c.in_ok-write_all.ensures.bytes) (t (omega (arith, h, c.read_front.auto.piece))))
+    (subst (Appends _ _) (front-text c.write_out-end.ensures) c.in_ok-write_all.ensures.bytes) (t (omega (arith, h, c.read_front.auto.piece))))
     c.copy_rest.ensures.whole
 
 pub returns-then-n-ge-FRONT-clause-left : goal.returns-then-n-ge-FRONT-clause-left
@@ -21,4 +21,4 @@ returns-then-n-ge-FRONT-clause-left g c = (_, Consumes-trans _ _ _ _ _ c.in_ok-n
 pub returns-clause-whole : goal.returns-clause-whole
 returns-clause-whole g c = λ h.
     ends in_full _ _ _ _ (take c.in_ok-n.n c.read_front.new.front) c.in_ok-n.ensures.reads (c.in_ok-n.ensures.ends (omega (arith, c.if-n-ge-FRONT.false)) h)
-    (subst (Appends _ _) (front-text c.write_out-end.ensures.puts) c.in_ok-write_all.ensures.bytes)
+    (subst (Appends _ _) (front-text c.write_out-end.ensures) c.in_ok-write_all.ensures.bytes)
