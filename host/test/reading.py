@@ -27,8 +27,6 @@ BEYOND = {
     "salvage": ["saving/Salvage", "saving/Alone", "saving/Again", "salvaging/Turning"],
     "the running hash": ["blake2b/Running"],
 }
-# sealed: nobody who reads Ed25519.antt can see it
-SEALED = "Rattle.standin."
 # the kit's own definitions: lists, numbers, truth values
 KIT = ("Rattle.std.", "mathlib.Core.", "Prim.", "denote.")
 IMPORT = re.compile(r"^(?:pub )?use ([^\n{]*)(?:\{[^}]*\})?", re.M)
@@ -44,7 +42,7 @@ def used(name, seen):
         return
     seen.add(name)
     for source in IMPORT.findall(spec(name)):
-        if source.startswith((SEALED, *KIT)):
+        if source.startswith(KIT):
             continue
         file = re.match(r"Rattle\.(\w+)\.specs\.(\w+)", source)
         if not file:

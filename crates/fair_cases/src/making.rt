@@ -126,7 +126,9 @@ pub(crate) fn show_made(rt: &impl Print, given: Making) -> io::Result<Rooms> {
 }
 
 // The right length or the wrong one, as the lowest bit of a mix says.
-pub(crate) fn either(mix: u16, right: u16, wrong: u16) -> u16 {
+pub(crate) fn either(mix: u16, right: u16, wrong: u16) -> u16
+    ensures { right ≤ 32900 → wrong ≤ 32900 → result ≤ 32900 }
+{
     if mix % 2 == 0 { right } else { wrong }
 }
 

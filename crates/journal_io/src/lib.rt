@@ -5,7 +5,7 @@ ghost use Rattle.std.specs.Prelude.{◌≡◌, ◌≤◌, ◌<◌, ℕ, List, le
 ghost use Rattle.std.specs.Io.KnownBytes.{Appends, Consumes};
 ghost use Rattle.verdicts.specs.Output.{journal_output};
 
-use ed25519::Ed25519;
+use ed25519::Verifier;
 use judging::Order;
 use ledger::Stream;
 use std::io;
@@ -13,7 +13,7 @@ use std::io::{Error, ErrorKind, Read, Write};
 
 // Reads a piece, takes its turn, writes what the turn says, until it was the last. A read that fails is not the end of the input: no total is written.
 // Where writing fails it stops. Each program keeps a loop like this: as a trait's method a turn would need a struct of all buffers, longer than the loop.
-fn run<R: Read, W: Write, E: Ed25519>(
+fn run<R: Read, W: Write, E: Verifier>(
     from: &mut R,
     to: &mut W,
     line: &mut [u8],
@@ -27,9 +27,9 @@ fn run<R: Read, W: Write, E: Ed25519>(
     let mut stream = Stream::new(Order::Strict);
     for _ in 0..u64::MAX {
         let got = from.read(piece)?;
-        let end = verdicts::turn::<E>(&mut stream, &piece[..got], line, out);
-        to.write_all(&out[..end])?;
-        if verdicts::is_last(got, &stream) {
+        let turned = verdicts::turn::<E>(&mut stream, &piece[..got], line, out);
+        to.write_all(&out[..turned.at])?;
+        if turned.over {
             return Ok(());
         }
     }
@@ -38,7 +38,11 @@ fn run<R: Read, W: Write, E: Ed25519>(
 
 // Judges the journal of a reader onto a writer, reading at most size bytes at a time.
 // After an error no clause speaks of what was written, since std says nothing of it then.
-pub fn judge<R: Read, W: Write, E: Ed25519>(from: &mut R, to: &mut W, size: usize) -> io::Result<()>
+pub fn judge<R: Read, W: Write, E: Verifier>(
+    from: &mut R,
+    to: &mut W,
+    size: usize,
+) -> io::Result<()>
     requires { (0 < size) × (size ≤ 2048) }
     ensures whole { OnOk result (IfSome (R.remaining from.old) (λ xs. Appends (W.contents to.old) (W.contents to.new) (journal_output E.scheme xs))) }
     ensures left { (bs : List ℕ) × Consumes (R.remaining from.old) (R.remaining from.new) bs }

@@ -6,7 +6,7 @@ ghost use Rattle.ledger.specs.Inside.{Ready, met_by, TakesBytes};
 ghost use Rattle.ledger.specs.Reading.{CanMeet};
 
 use crate::{Event, Stream};
-use ed25519::Ed25519;
+use ed25519::Verifier;
 
 // A reader of what was met: what a line makes of it, and whether it can take the line. Where no line was met it is told nothing.
 pub trait Reader {
@@ -21,7 +21,7 @@ pub trait Reader {
 }
 
 // Takes a piece of the input; line is the buffer of the present line.
-pub fn feed<E: Ed25519, R: Reader>(
+pub fn feed<E: Verifier, R: Reader>(
     stream: &mut Stream,
     reader: &mut R,
     piece: &[u8],

@@ -10,7 +10,7 @@ ghost use Rattle.accounts.specs.Accounts.{line_of};
 ghost use Rattle.accounts.specs.Inside.{UpTo, SoundQuarter, one_more};
 
 use accounts::Quarter;
-use ed25519::Ed25519;
+use ed25519::Verifier;
 use judging::Order;
 use ledger::Stream;
 use lines::{LIMIT, Taken};
@@ -27,7 +27,7 @@ struct Names {
 }
 
 // Reads a journal to its end. Where a read fails it comes to nothing, since half a journal must not count as one.
-fn read_journal<R: Read, E: Ed25519>(
+fn read_journal<R: Read, E: Verifier>(
     from: &mut R,
     line: &mut [u8],
     piece: &mut [u8],
@@ -48,7 +48,7 @@ fn read_journal<R: Read, E: Ed25519>(
 }
 
 // A path of this system's library is UTF-8: a name that is not leads to no file.
-fn open_journal<F: Files, E: Ed25519>(files: &F, name: &[u8]) -> Option<Sums>
+fn open_journal<F: Files, E: Verifier>(files: &F, name: &[u8]) -> Option<Sums>
     ensures { UpTo 4294967296 result }
 {
     let path = str::from_utf8(name).ok()?;
@@ -59,7 +59,7 @@ fn open_journal<F: Files, E: Ed25519>(files: &F, name: &[u8]) -> Option<Sums>
 }
 
 // What the next name leads to; after the 64th it is not opened.
-fn account_of<F: Files, E: Ed25519>(files: &F, quarter: Quarter, name: &[u8]) -> Option<Sums>
+fn account_of<F: Files, E: Verifier>(files: &F, quarter: Quarter, name: &[u8]) -> Option<Sums>
     ensures { UpTo 4294967296 result }
 {
     if accounts::is_open(quarter) {
@@ -70,7 +70,7 @@ fn account_of<F: Files, E: Ed25519>(files: &F, quarter: Quarter, name: &[u8]) ->
 
 impl Names {
     // Enters the name that a line says, and writes what it leads to.
-    fn enter<F: Files, W: Write, E: Ed25519>(
+    fn enter<F: Files, W: Write, E: Verifier>(
         &mut self,
         files: &F,
         line: &[u8],
@@ -92,7 +92,8 @@ impl Names {
 
     // Takes a piece of the names, line by line and so by an index; line is the buffer of the present one. Of an over-long line the first bytes are enough for a
     // name.
-    fn take<F: Files, W: Write, E: Ed25519>(
+    #[tactic(auto, using(lines::proofs::Law::bounds))]
+    fn take<F: Files, W: Write, E: Verifier>(
         &mut self,
         files: &F,
         piece: &[u8],
@@ -119,7 +120,7 @@ impl Names {
     }
 
     // The end of the names: a last one without LF counts, and the line of all is written.
-    fn finish<F: Files, W: Write, E: Ed25519>(
+    fn finish<F: Files, W: Write, E: Verifier>(
         &mut self,
         files: &F,
         line: &[u8],
@@ -138,7 +139,7 @@ impl Names {
 }
 
 // A read of the names that fails is not their end: the line of all is not written. Where writing fails it stops.
-fn run<F: Files, R: Read, W: Write, E: Ed25519>(
+fn run<F: Files, R: Read, W: Write, E: Verifier>(
     files: &F,
     from: &mut R,
     to: &mut W,
@@ -163,7 +164,7 @@ fn run<F: Files, R: Read, W: Write, E: Ed25519>(
 }
 
 // Reads names from a reader, one a line, and writes to a writer what each leads to, and then what all do.
-pub fn report<F: Files, R: Read, W: Write, E: Ed25519>(
+pub fn report<F: Files, R: Read, W: Write, E: Verifier>(
     files: &F,
     from: &mut R,
     to: &mut W,

@@ -1,6 +1,7 @@
 // The heights of a key's trees.
-ghost use Rattle.std.specs.Prelude.{◌≡◌, ◌≤◌, All, List, ℕ, take, length};
+ghost use Rattle.std.specs.Prelude.{◌≡◌, ◌-◌, ◌≤◌, ◌++◌, All, List, ℕ, take, drop, length, replicate};
 ghost use Rattle.rules.specs.Trees.{Heights, OfKey, key_heights, top_of, below_of, max_height, too_high};
+ghost use Rattle.std.proofs.Common.{arith, length-take-le, take-append-drop};
 
 use std::marker::Model;
 
@@ -10,7 +11,7 @@ pub const MAX_HEIGHT: usize = 12;
 pub const MAX_HEIGHT_3: usize = 8;
 
 // The heights of two trees or three, from the top, none too high.
-#[derive(Drop)]
+#[derive(Clone, Copy)]
 pub struct Heights {
     all: [usize; 3],
     trees: usize,
@@ -21,7 +22,16 @@ impl Model for Heights {
 
     ghost view = { λ s. take s.trees s.all };
 
-    ghost invariant = { λ s. (s.trees ≤ 3) × OfKey (take s.trees s.all) };
+    // Zeros follow the heights, so that the list alone gives the fields back, as Copy asks.
+    ghost invariant = { λ s. (s.trees ≤ 3) × OfKey (take s.trees s.all) × (length s.all ≡ 3)
+        × (drop s.trees s.all ≡ replicate (3 - s.trees) 0) };
+
+    ghost inverse = { λ x. record { all = x ++ replicate (3 - length x) 0; trees = length x } };
+
+    ghost inverse_ok = { λ s h.
+        let e : length (take s.trees s.all) ≡ s.trees = length-take-le s.trees s.all (omega (arith, h.0, h.2)) in
+        let a : take s.trees s.all ++ replicate (3 - length (take s.trees s.all)) 0 ≡ s.all = rw (e, ← h.3) (take-append-drop s.trees s.all) in
+        λ i. record { all = a i; trees = e i } };
 }
 
 impl Heights {

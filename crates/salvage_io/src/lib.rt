@@ -5,7 +5,7 @@ ghost use Rattle.std.specs.Prelude.{◌≡◌, ◌≤◌, ◌<◌, ℕ, List, le
 ghost use Rattle.std.specs.Io.KnownBytes.{Appends, Consumes};
 ghost use Rattle.saving.specs.Salvage.{saved_journal, saved_list};
 
-use ed25519::Ed25519;
+use ed25519::Verifier;
 use std::io;
 use std::io::{Error, ErrorKind, Read, Write};
 
@@ -23,7 +23,7 @@ fn write_both<W: Write, L: Write>(
 }
 
 // Reads a piece, takes its turn, writes what the turn says to each output, until it was the last. Where reading or writing fails it stops.
-fn run<R: Read, W: Write, L: Write, E: Ed25519>(
+fn run<R: Read, W: Write, L: Write, E: Verifier>(
     from: &mut R,
     to: &mut W,
     others: &mut L,
@@ -40,9 +40,9 @@ fn run<R: Read, W: Write, L: Write, E: Ed25519>(
     let mut stream = saving::start();
     for _ in 0..u64::MAX {
         let got = from.read(piece)?;
-        let ends = salvaging::turn::<E>(&mut stream, &piece[..got], line, journal, list);
-        write_both(to, &journal[..ends.saved], others, &list[..ends.listed])?;
-        if verdicts::is_last(got, &stream) {
+        let turned = salvaging::turn::<E>(&mut stream, &piece[..got], line, journal, list);
+        write_both(to, &journal[..turned.saved], others, &list[..turned.listed])?;
+        if turned.over {
             return Ok(());
         }
     }
@@ -51,7 +51,7 @@ fn run<R: Read, W: Write, L: Write, E: Ed25519>(
 
 // Saves the journal of a reader onto a writer and lists its other lines onto another, reading at most size bytes at a time.
 // After an error no clause speaks of what was written, since std says nothing of it then.
-pub fn save<R: Read, W: Write, L: Write, E: Ed25519>(
+pub fn save<R: Read, W: Write, L: Write, E: Verifier>(
     from: &mut R,
     to: &mut W,
     others: &mut L,

@@ -13,7 +13,7 @@ use Rattle.summary.specs.Summary.{TopUp, new_entry, added_to}
 use Rattle.summary.specs.Calls.{admitted, held_in, EnterOutcome, enter_under, enter_outcome, Enters, find_under, find_answer, Finds}
 use Rattle.summary.specs.Inside.{place_of, inserted, entered_at, found_at}
 use Rattle.summary.proofs.Admission.{admission}
-use Rattle.summary.proofs.Outcomes.{at-full, at-held, gap-no-room, gap-new, enters, finds}
+use Rattle.summary.proofs.Outcomes.{at-full, at-held, gap-no-room, gap-new, enters-admitted, finds-admitted}
 
 module _ (t : List CardEntry) (held card cents : ℕ) {fits : Bool} (f : fits ≡ line_fits card cents) where
   abbrev tells : Result (Unit {0}) Refusal
@@ -35,7 +35,7 @@ module _ (t : List CardEntry) (held card cents : ℕ) {fits : Bool} (f : fits �
   module _ (a : Ok tt ≡ tells) where
     placed : (r : Result ℕ ℕ) → r ≡ place_of card (held_in t held) → entered_at t held line r ≡ enter_under tells t held line
     placed r p =
-        ap (entered_at t held line) p ∙ enters t held line (admission (length t) held (rising 0 (held_in t held)) fits (sym a))
+        ap (entered_at t held line) p ∙ enters-admitted t held line (admission (length t) held (rising 0 (held_in t held)) fits (sym a))
         ∙ ap (λ (x : Result (Unit {0}) Refusal). enter_under x t held line) a
 
     module _ {at : ℕ} (p : Ok at ≡ place_of card (held_in t held)) where
@@ -71,5 +71,5 @@ module _ (t : List CardEntry) (held card : ℕ) {fits : Bool} (f : fits ≡ card
   find-at a r p =
       as-answer (Ok (found_at r))
       (ap (λ (x : Result ℕ ℕ). Ok (found_at x)) p
-      ∙ finds t held (record { card = card; cents = 0 }) (admission (length t) held (rising 0 (held_in t held)) fits (sym a))
+      ∙ finds-admitted t held (record { card = card; cents = 0 }) (admission (length t) held (rising 0 (held_in t held)) fits (sym a))
       ∙ ap (λ (x : Result (Unit {0}) Refusal). find_under x (held_in t held) card) a)

@@ -37,6 +37,7 @@ pub fn grown(h: usize, t: usize) -> Room
 // Moves a tree, and answers the count.
 pub fn move_tree(bytes: &mut [u8], h: usize, a: usize, b: usize) -> usize
     requires { (h ≤ 12) × (a < b) × (b < 2 ^ h) × (length bytes.old ≡ tree_size h) }
+    ensures { length bytes.new ≡ tree_size h }
 {
     let mut tally = ANSWERED;
     tree::move_tree::<Module>(bytes, h, a, b, &mut tally).unwrap_or(0)

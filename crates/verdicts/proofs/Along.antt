@@ -1,5 +1,5 @@
 -- What was read and what was written so far, and that a run from here on is a run from the start: for every program whose turns read pieces of a journal.
-use Rattle.std.proofs.Common.{◌≡◌, sym, ap, ◌∙◌, subst, ℕ, Bool, true, List, [], ◌∷◌, ◌++◌, append_assoc, length, IfSome, eqb, eqb-true, inl, inr, Option}
+use Rattle.std.proofs.Common.{◌≡◌, sym, ap, ◌∙◌, subst, ℕ, true, List, [], ◌∷◌, ◌++◌, append_assoc, length, IfSome, eqb, eqb-true, inl, inr, Option}
 use Rattle.std.proofs.lemmas.List.{nil_from_length}
 use Rattle.std.specs.Io.KnownBytes.{Appends, Consumes, IsAtEnd}
 use Rattle.std.proofs.KnownBytes.{Consumes-nil, Consumes-trans, Appends-nil, Appends-trans}
@@ -12,10 +12,6 @@ use Rattle.verdicts.proofs.Reading.{all-last, all-two, finished, all-read, or-ei
 -- what a program's runs are: from a stream and the buffer of its line on, through these pieces, with this written
 abbrev pub Running : Type 1
 Running = Stream → List ℕ → List (List ℕ) → List ℕ → Type 0
-
--- whether the turn was the last, as the program asked it of what was read
-pub asked : (read : List ℕ) (p : Phase) {got : ℕ} {last b : Bool} → length read ≡ got → last ≡ ends_at got p → last ≡ b → ends_at (length read) p ≡ b
-asked read p n e t = ap (λ (m : ℕ). ends_at m p) n ∙ sym e ∙ t
 
 -- `had` and `held` are what the reader and the writer had at first, `has` and `holds` what they have now
 pub record Along (Run : Running) (start : Stream) (line₀ : List ℕ) (had has held holds : Option (List ℕ)) (s : Stream) (line : List ℕ) : Type 0 where

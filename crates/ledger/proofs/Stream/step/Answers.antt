@@ -8,13 +8,13 @@ use Rattle.ledger.proofs.Stream.step.Goals as goal
 
 pub slice_bounds-whole_line-end : goal.slice_bounds-whole_line-end
 slice_bounds-whole_line-end g c =
-    let E = g.E.Ed25519.scheme in
+    let E = g.E.Verifier.scheme in
     let t = c.take_line in
     omega (arith, (bounds (taken_as c.in-Whole.is t.ensures)).2, t.auto.line, c.requires.0.room)
 
 pub returns-in-Whole : goal.returns-in-Whole
 returns-in-Whole g c =
-    let E = g.E.Ed25519.scheme in
+    let E = g.E.Verifier.scheme in
     let t = c.take_line in
     steps-line E c.requires.0 (omega (arith, c.requires.1)) (Whole c.in-Whole.size c.in-Whole.next) (taken_as c.in-Whole.is t.ensures) _ _ refl refl
     (whole (take (c.in-Whole.size - 0) t.new.line)) (ap (λ (n : ℕ). whole (take n t.new.line) ∷ []) (sym (sub-zero c.in-Whole.size))) refl
@@ -22,13 +22,13 @@ returns-in-Whole g c =
 
 pub returns-in-Long : goal.returns-in-Long
 returns-in-Long g c =
-    let E = g.E.Ed25519.scheme in
+    let E = g.E.Verifier.scheme in
     let t = c.take_line in
     steps-line E c.requires.0 (omega (arith, c.requires.1)) (Long c.in-Long.next) (taken_as c.in-Long.is t.ensures) _ _ refl refl
     (long (take 2048 t.new.line)) refl refl refl (c.broken_line-event.ensures (take 2048 t.new.line)).0
 
 pub returns-in-Cut : goal.returns-in-Cut
 returns-in-Cut g c =
-    let E = g.E.Ed25519.scheme in
+    let E = g.E.Verifier.scheme in
     let t = c.take_line in
     steps-cut E c.requires.0 (omega (arith, t.auto.line, c.requires.0.room)) (omega (arith, c.requires.1)) (taken_as c.in-Cut.is t.ensures)

@@ -4,9 +4,6 @@ use Rattle.lines.proofs.Law.{bounds}
 use Rattle.quarter_io.proofs.Names.take.Goals as goal
 use Rattle.quarter_io.proofs.Names.take.Goals.{in-Whole, in-Long}
 
-pub returns-in-Cut : goal.returns-in-Cut
-returns-in-Cut g c = (c.loop-i.invariant.0, bounds c.in-Cut.ensures)
-
 pub slice_bounds-enter-end : goal.slice_bounds-enter-end
 slice_bounds-enter-end g c =
     elim c.match-take_line.branch [
